@@ -27,7 +27,8 @@ fn count(counts: &mut Counts, page: u64, now: u64) -> Result<u64, Refused>
 
 // Returns the entry's count plus one, or 1 if there is no entry. The greatest `u64` stays.
 fn next_count(shown: Option<Entry<u64, u64>>) -> u64
-    ensures { result ≡ one_more_than (count_of (option_map (λ entry. (entry_of entry).value) shown)) }
+    ensures { result ≡ one_more_than
+        (count_of (option_map (λ entry. (entry_of entry).value) shown)) }
 {
     match shown {
         Some(entry) => entry.value().saturating_add(1),

@@ -2,11 +2,14 @@
 pub use Rattle.moka_base.specs.Admission
 pub use Rattle.moka_base.specs.Building
 pub use Rattle.moka_base.specs.Calls
+pub use Rattle.moka_base.specs.CompResults
 pub use Rattle.moka_base.specs.Conserved
+pub use Rattle.moka_base.specs.Entries
 pub use Rattle.moka_base.specs.Events
 pub use Rattle.moka_base.specs.Frequency
 pub use Rattle.moka_base.specs.Lives
 pub use Rattle.moka_base.specs.Maintenance
+pub use Rattle.moka_base.specs.MaintenanceLaws
 pub use Rattle.moka_base.specs.NumberHash
 pub use Rattle.moka_base.specs.Numbers
 pub use Rattle.moka_base.specs.Orders
@@ -16,16 +19,36 @@ pub use Rattle.moka_base.specs.SizeLaws
 pub use Rattle.moka_base.specs.Sketch
 pub use Rattle.moka_base.specs.StandsFor
 pub use Rattle.moka_base.specs.Steps
+pub use Rattle.moka_base.specs.Turns
+pub use Rattle.moka_turns.specs.Handles
+pub use Rattle.moka_state.specs.Begin
 pub use Rattle.moka_state.specs.Behaviour
+pub use Rattle.moka_state.specs.Compute
+pub use Rattle.moka_state.specs.ComputeForms
+pub use Rattle.moka_state.specs.Ends
+pub use Rattle.moka_state.specs.EntryForms
+pub use Rattle.moka_state.specs.Finish
+pub use Rattle.moka_state.specs.Forms
+pub use Rattle.moka_state.specs.Given
+pub use Rattle.moka_state.specs.HandedOut
 pub use Rattle.moka_state.specs.Noticed
+pub use Rattle.moka_state.specs.OrInsert
+pub use Rattle.moka_state.specs.PredicateId
 pub use Rattle.moka_state.specs.Recorded
 pub use Rattle.moka_state.specs.Replies
 pub use Rattle.moka_state.specs.Rows
+pub use Rattle.moka_state.specs.Settings
 pub use Rattle.moka_state.specs.State
 pub use Rattle.moka_state.specs.StateData
 pub use Rattle.moka_state.specs.Step
 pub use Rattle.moka_state.specs.Table
 pub use Rattle.moka_state.specs.Write
+pub use Rattle.moka_segmented.specs.Ends as SegmentedEnds
+pub use Rattle.moka_segmented.specs.Forms as SegmentedForms
+pub use Rattle.moka_segmented.specs.SegmentedData
+pub use Rattle.moka_segmented.specs.Segments
+pub use Rattle.moka_segmented.specs.Step as SegmentedSteps
+pub use Rattle.moka_segmented.specs.Turns as SegmentedTurns
 pub use Rattle.moka_state_iter.specs.States
 pub use Rattle.moka_presets.specs.Copies
 pub use Rattle.moka_recorded.specs.Gets
@@ -35,13 +58,17 @@ pub use Rattle.moka_recorded.specs.Keeps
 pub use Rattle.moka_recorded.specs.Receipts
 pub use Rattle.moka_recorded.specs.Rounds
 pub use Rattle.moka_recorded.specs.StepForm
+pub use Rattle.moka_recorded.specs.Waking
 pub use Rattle.moka_recorded_laws.specs.GetLaws
 pub use Rattle.moka_recorded_laws.specs.HistoryLaws
 pub use Rattle.moka_recorded_laws.specs.LegalRun
 pub use Rattle.moka_recorded_laws.specs.RunLaws
 pub use Rattle.moka_sync.specs.Builder
 pub use Rattle.moka_sync.specs.Cache
+pub use Rattle.moka_sync.specs.Kept
 pub use Rattle.moka_sync.specs.ReplaceIf
+pub use Rattle.moka_sync.specs.Segments as SharedSegments
+pub use Rattle.moka_sync.specs.Waiting
 pub use Rattle.moka_iter.specs.Cursors
 pub use Rattle.moka_iter.specs.Histories
 pub use Rattle.moka_iter.specs.Iters

@@ -45,6 +45,12 @@ pub mod sync {
     pub use moka_sync::entry_selector::{OwnedKeyEntrySelector, RefKeyEntrySelector};
     pub use moka_sync::segment::SegmentedCache;
 
+    /// Selectors: a key, for exactly one call. Those of shared caches, and those of owned ones.
+    pub mod entry_selector {
+        pub use moka_state::entry_selector::StateEntrySelector;
+        pub use moka_sync::entry_selector::{OwnedKeyEntrySelector, RefKeyEntrySelector};
+    }
+
     /// Single flight by hand: one caller computes the value of a key, others wait for the outcome.
     pub mod value_initializer {
         pub use moka_base::turns::{Kind, Outcome};
@@ -69,10 +75,11 @@ pub mod sync {
         pub use moka_recorded_laws::{get_laws, history_laws, legal_laws, run_laws};
     }
 
-    /// The owned cache of several segments.
+    /// The caches of several segments, owned and shared.
     pub mod segment {
         pub use moka_segmented::segment::{Segmented, SegmentedState};
-        pub use moka_segmented::segmented_view::SegmentedStateView;
+        pub use moka_segmented::segmented_view::{SegmentedCallView, SegmentedStateView};
+        pub use moka_sync::segment::SegmentedCache;
     }
 }
 
@@ -81,12 +88,17 @@ pub use moka_state::step;
 
 /// The owned cache.
 pub mod state {
+    pub use moka_state::call_view::CallView;
     pub use moka_state::entry_selector::StateEntrySelector;
     pub use moka_state::expiring_rows::ExpiringRows;
     pub use moka_state::list_rows::ListRows;
     pub use moka_state::or_insert::OrInsertRefused;
+    #[doc(hidden)]
     pub use moka_state::packed::PackedEntryInfo;
-    pub use moka_state::rows::{Access, EntryInfo, Order, OwnLife, Previous, Row, RowStore};
+    pub use moka_state::predicate_error::PredicateError;
+    #[doc(hidden)]
+    pub use moka_state::rows::{Access, Order, Previous, Row};
+    pub use moka_state::rows::{EntryInfo, OwnLife, RowStore};
     pub use moka_state::slab_rows::SlabRows;
     pub use moka_state::state::{CacheState, InsertRefused, Settings, State};
     pub use moka_state::step::{Reply, Step};

@@ -4,8 +4,12 @@
 
 pub use moka_laws::{
     admission_laws, call_laws, frequency_laws, hiding_laws, laws, maintenance_laws, order_laws,
-    own_life_laws, size_laws, sketch_laws, turn_laws, worked, worked_admission, worked_calls,
-    worked_expiry, worked_frequency, worked_maintenance, worked_size, worked_sketch, worked_turns,
+    own_life_laws, size_laws, sketch_laws, turn_laws,
+};
+#[doc(hidden)]
+pub use moka_laws::{
+    worked, worked_admission, worked_building, worked_calls, worked_expiry, worked_frequency,
+    worked_maintenance, worked_size, worked_sketch, worked_turns,
 };
 pub use moka_model::{comp_result, notification, turns};
 pub use moka_policy::{clock, expiry, frequency, listener, predicate, weigher};

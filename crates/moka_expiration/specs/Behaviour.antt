@@ -9,6 +9,10 @@ pub record BehaviourData (H W X : Type 0) : Type 0 where
   pub weigher : Option W
   pub expiry : Option X
 
+-- The data of a behaviour of these four.
+abbrev pub data_with : {H W X : Type 0} → Bool → H → Option W → Option X → BehaviourData H W X
+data_with is_lru hasher weigher expiry = record { is_lru = is_lru; hasher = hasher; weigher = weigher; expiry = expiry }
+
 -- The hash that a hasher computes of a key, from what the key feeds it.
 abbrev pub hash_by : {K H S I : Type 0} → (H → S) → (S → List I → S) → (S → ℕ) → (K → List (List I)) → H → K → ℕ
 hash_by build_hasher write finish hash_input hasher key = finish (fold write (build_hasher hasher) (hash_input key))

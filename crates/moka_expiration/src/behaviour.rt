@@ -5,7 +5,7 @@ ghost use Rattle.std.specs.Arc.{arc_value};
 ghost use Rattle.moka_model.specs.Lives.{rest, given};
 ghost use Rattle.moka_policy.specs.Policy.{is_lru};
 ghost use Rattle.moka_expiration.specs.ExpirationPolicy.{own_life, own_of};
-ghost use Rattle.moka_expiration.specs.Behaviour.{BehaviourData};
+ghost use Rattle.moka_expiration.specs.Behaviour.{BehaviourData, data_with};
 
 use crate::expiration_policy::{own_life_from, rest};
 use crate::view::BehaviourView;
@@ -56,12 +56,8 @@ impl<K: Hash + Drop, V: Clone, C: CacheTypes<K, V>> Behaviour<K, V, C> {
             C.Weigher.weighs (arc_value weigher) (C.weight (arc_value weigher))) }
         requires gives { IfSome expiry (λ expiry.
             C.Expiry.gives (arc_value expiry) (C.lifetimes (arc_value expiry))) }
-        ensures { result ≡ record {
-          is_lru = is_lru policy;
-          hasher = arc_value hasher;
-          weigher = option_map arc_value weigher;
-          expiry = option_map arc_value expiry;
-        } }
+        ensures { result ≡ data_with (is_lru policy) (arc_value hasher)
+            (option_map arc_value weigher) (option_map arc_value expiry) }
     {
         Behaviour {
             policy,
@@ -108,7 +104,8 @@ impl<K: Hash + Drop, V: Clone, C: CacheTypes<K, V>> Behaviour<K, V, C> {
     #[inline(always)]
     pub fn life_of_new(&self, key: &K, value: &V, now: u64) -> Option<OwnLife>
         ensures { option_map own_life result ≡ given
-            ((⟦<C as BehaviourView<K, V>>⟧.behaviour self.now).lifetimes.created key.now value.now now)
+            ((⟦<C as BehaviourView<K, V>>⟧.behaviour self.now).lifetimes.created key.now value.now
+            now)
             now }
     {
         match &self.expiry {

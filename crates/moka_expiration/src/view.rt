@@ -45,7 +45,8 @@ pub trait StateView<K: Hash, V: Clone>: CacheTypes<K, V> {
     ghost settings: { SettingsData Self.Hasher Self.Weigher Self.Expiry → Settings K V };
 
     /// The state: its settings, its values and its turns.
-    ghost view: { StateData K V Self.Hasher Self.Weigher Self.Expiry Self.Frequency Self.Error → WholeView K V Self.Error };
+    ghost view: { StateData K V Self.Hasher Self.Weigher Self.Expiry Self.Frequency Self.Error
+        → WholeView K V Self.Error };
 
     /// These accepted steps are a history of the state, under these settings.
     ghost stands_for: { Settings K V
@@ -54,7 +55,8 @@ pub trait StateView<K: Hash, V: Clone>: CacheTypes<K, V> {
         → Type 0 };
 
     /// This holds for every history of the state and its settings.
-    ghost at_each_history: { StateData K V Self.Hasher Self.Weigher Self.Expiry Self.Frequency Self.Error
+    ghost at_each_history: { StateData K V Self.Hasher Self.Weigher Self.Expiry Self.Frequency
+        Self.Error
         → (Settings K V → List (AcceptedStep K V Self.Error) → Type 0)
         → Type 0 };
 
@@ -65,7 +67,8 @@ pub trait StateView<K: Hash, V: Clone>: CacheTypes<K, V> {
         → Type 0 };
 
     /// This is a right result of the call, for every history of the state.
-    ghost replies_with: { StateData K V Self.Hasher Self.Weigher Self.Expiry Self.Frequency Self.Error
+    ghost replies_with: { StateData K V Self.Hasher Self.Weigher Self.Expiry Self.Frequency
+        Self.Error
         → Call K V Self.Error
         → Reply K V Self.Error
         → Type 0 };
@@ -106,6 +109,7 @@ impl<K: Hash, V: Clone, C: CacheTypes<K, V>> StateView<K, V> for C {
 
 /// Without a weigher each key weighs 1 with each value.
 pub fn without_a_weigher_each_weighs_one<K: Hash, V: Clone, C: CacheTypes<K, V>>()
-    ensures { (settings : SettingsData C.Hasher C.Weigher C.Expiry) → settings.behaviour.weigher ≡ None
+    ensures { (settings : SettingsData C.Hasher C.Weigher C.Expiry)
+        → settings.behaviour.weigher ≡ None
         → WeighsOnes (⟦<C as StateView<K, V>>⟧.settings settings) }
 {}

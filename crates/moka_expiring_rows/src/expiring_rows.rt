@@ -44,7 +44,8 @@ pub struct ExpiringRows<K, V> {
     // room for so many rows more is room for their numbers.
     top: usize,
     ghost listed: { is_whole ≡ true → order_of deadlines ≡ deadlines_in (admitted_in rows) },
-    ghost noted: { AllByRecursion (IsNoted has_deadlines top) (admitted_in rows ++ waiting_in rows) } by { Prim.hlevel props },
+    ghost noted: { AllByRecursion (IsNoted has_deadlines top)
+        (admitted_in rows ++ waiting_in rows) } by { Prim.hlevel props },
     ghost whole: { has_deadlines ≡ false → is_whole ≡ true },
     ghost begun: { 2 ≤ top },
 }

@@ -116,7 +116,7 @@ module _ {K V E : Type 0} (count : ℕ) (stands : ℕ → Result (List K) E → 
           stood = was.2.stood;
           within = was.2.within;
           dead = all;
-          ends = (stops.4.1, same_place ∙ was.2.reached);
+          ends = (stops.4.1, same_place ∙ was.2.reached, ap (λ n. n - 1) (sym same_place));
           once = stopped old here new was stops.0 stops.1 stops.2 same_place;
         },
         ap (λ k. Some (Ok (k, pair.1))) stops.4.0,
@@ -129,7 +129,7 @@ module _ {K V E : Type 0} (count : ℕ) (stands : ℕ → Result (List K) E → 
           stood = was.2.stood;
           within = was.2.within;
           dead = all;
-          ends = (stops.4, same_place ∙ was.2.reached);
+          ends = (stops.4, same_place ∙ was.2.reached, ap (λ n. n - 1) (sym same_place));
           once = stopped old here new was stops.0 stops.1 stops.2 same_place;
         },
         refl,

@@ -1,6 +1,8 @@
 -- Iteration over caches that say by themselves what they hold.
-use Rattle.std.specs.Prelude.{◌≡◌, ℕ, Option, Some, None, IsSomeAnd, MatchOption, Result, Ok, List, [], length, slice_get}
+use Rattle.std.specs.Prelude.{◌≡◌, ℕ, Bool, Option, Some, None, IsSomeAnd, MatchOption, Result, Ok, List, [], ◌∷◌, length, slice_get}
+use Rattle.moka_policy.specs.declared.policy.Refused.{Refused}
 use Rattle.moka_iter.specs.Walks.{Cursor, Advance, Advances, reply_of}
+use Rattle.moka_iter.specs.Histories.{History, StandsIn, FindsIn}
 
 -- The caches that an iterator goes over, and where it is.
 pub record IterData (K G : Type 0) : Type 0 where
@@ -26,3 +28,18 @@ module _ {K V E G : Type 0} (stands : G → Result (List K) E → Type 0) (finds
   abbrev pub IteratesTo : IterData K G → Option (Result (K × V) E) → IterData K G → Type 0
   IteratesTo old result new = (new.caches ≡ old.caches) × ((it : Advance K V E)
       × Advances (length old.caches) (StandsAt old.caches) (FindsAt old.caches) old.cursor it new.cursor × (result ≡ reply_of it.ending))
+
+  -- The iterator yields these pairs one after another, then none, and no error.
+  abbrev pub IteratesJust : IterData K G → List (K × V) → Type 0
+  IteratesJust old [] = (new : IterData K G) × IteratesTo old None new
+  IteratesJust old (pair ∷ pairs) = (new : IterData K G) × IteratesTo old (Some (Ok pair)) new × IteratesJust new pairs
+
+-- The caches say what these histories hold at a moment: which keys are stored, and what is live. So nobody uses them.
+pub record StandStill {K V E G : Type 0} (eq : K → K → Bool) (is_clone : V → V → Type 0) (is_infallible : V → Type 0)
+    (stands : G → Result (List K) Refused → Type 0) (finds : G → K → Result (Option V) Refused → Type 0)
+    (caches : List G) (histories : List (History K V E)) (now : ℕ) : Type 0 where
+  pub count : length caches ≡ length histories
+  pub stored : (i : ℕ) (result : Result (List K) Refused) → StandsAt stands finds caches i result
+      → StandsIn eq is_clone is_infallible histories now i result
+  pub live : (i : ℕ) (k : K) (result : Result (Option V) Refused) → FindsAt stands finds caches i k result
+      → FindsIn eq is_clone is_infallible histories now i k result

@@ -1,9 +1,13 @@
 -- The words of the laws of walks.
-use Rattle.std.specs.Prelude.{◌≡◌, ℕ, ◌+◌, ◌≤◌, Bool, true, Some, None, is_some, Ok, List, [], ◌∷◌, ◌++◌, length, if◌then◌else◌}
+use Rattle.std.specs.Prelude.{◌≡◌, ◌⊎◌, ℕ, ◌+◌, ◌≤◌, ◌<◌, Bool, true, Some, None, is_some, IsSome, IsSomeAnd, Ok}
+use Rattle.std.specs.Prelude.{List, [], ◌∷◌, ◌++◌, length, if◌then◌else◌}
 use Rattle.std.specs.List.{AllByRecursion}
+use Rattle.moka_model.specs.MaintenanceLaws.{count}
+use Rattle.moka_model.specs.Calls.{IsCopyOf}
 use Rattle.moka_policy.specs.declared.policy.Refused.{Refused}
+use Rattle.moka_policy.specs.declared.policy.Refused.TheVariants.{OutOfMemory}
 use Rattle.moka_iter.specs.Walks.{Cursor, Ending, Yielded, Advance, reply_of}
-use Rattle.moka_iter.specs.Histories.{History, standing_in, WalksOn, RepliesNext}
+use Rattle.moka_iter.specs.Histories.{History, live_in, standing_in, WalksOn, RepliesNext}
 
 -- One call of a walk: the histories of the segments, the moment, and what the call does.
 pub record WalkCall (K V E : Type 0) : Type 0 where
@@ -15,6 +19,10 @@ pub record WalkCall (K V E : Type 0) : Type 0 where
 abbrev pub pair_of : {K V E : Type 0} → Ending K V E → List (K × V)
 pair_of (Yielded i k v) = (k, v) ∷ []
 pair_of ending = []
+
+-- A call that takes a key of the first segment, yields it, and has taken a key of the next segment too.
+abbrev pub yields_early : {K V E : Type 0} → K → V → K → Advance K V E
+yields_early k v next = record { taken = (k ∷ []) ∷ (next ∷ []) ∷ []; passed = []; ending = Yielded 0 k v }
 
 -- How many keys were taken of segments.
 abbrev pub all_keys : {K : Type 0} → List (List K) → ℕ
@@ -71,3 +79,26 @@ module _ {K V E : Type 0} (eq : K → K → Bool) (is_clone : V → V → Type 0
   YieldsJust histories now old [] = (new : Cursor K) × RepliesNext eq is_clone is_infallible histories now old None new
   YieldsJust histories now old (pair ∷ pairs) =
       (new : Cursor K) × RepliesNext eq is_clone is_infallible histories now old (Some (Ok pair)) new × YieldsJust histories now new pairs
+
+  -- A live key of some segment has a value whose clone can fail.
+  abbrev pub ACopyCanFail : List (History K V E) → ℕ → Type 0
+  ACopyCanFail histories now = (i : ℕ) × (k : K) × IsSomeAnd (live_in eq histories now i k) (λ v. ¬ (is_infallible v))
+
+  -- A call of a walk that fails does so for memory alone, at such a key or at a further segment, of which no key is to
+  -- come.
+  abbrev pub FailsForMemory : List (History K V E) → ℕ → Cursor K → Refused → Cursor K → Type 0
+  FailsForMemory histories now old e new =
+      (e ≡ OutOfMemory) × (ACopyCanFail histories now ⊎ ((old.reached < new.reached) × (new.pending ≡ [])))
+
+module _ {K V E : Type 0} (eq : K → K → Bool) (histories : List (History K V E)) (now : ℕ) (pairs : List (K × V)) where
+  -- Each pair is live in one of the caches, with a clone of its value.
+  abbrev pub AreLive : (V → V → Type 0) → Type 0
+  AreLive is_clone = AllByRecursion (λ pair. (i : ℕ) × IsCopyOf is_clone (live_in eq histories now i pair.0) (Some pair.1)) pairs
+
+  -- Each key that is live in one of the caches has one of the pairs.
+  abbrev pub HasEachOnce : Type 0
+  HasEachOnce = (k : K) (i : ℕ) → IsSome (live_in eq histories now i k) → count (λ pair. eq pair.0 k) pairs ≡ 1
+
+  -- Each key that is live in the first of them has.
+  abbrev pub HasEachOfOne : Type 0
+  HasEachOfOne = (k : K) → IsSome (live_in eq histories now 0 k) → count (λ pair. eq pair.0 k) pairs ≡ 1

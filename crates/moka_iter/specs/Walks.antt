@@ -68,10 +68,11 @@ module _ {K V E : Type 0} (count : ℕ) (stands : ℕ → Result (List K) E → 
   AllStand i [] = ⊤
   AllStand i (keys ∷ more) = stands i (Ok keys) × AllStand (i + 1) more
 
-  -- The call ends so if so many segments were reached before the ending.
+  -- The call ends so if so many segments were reached before the ending. A key at which it ends is of the last of them:
+  -- no further segment is reached before it is needed.
   abbrev pub IsEnding : ℕ → Ending K V E → Cursor K → Type 0
-  IsEnding reached (Yielded i k v) new = finds i k (Ok (Some v)) × (new.reached ≡ reached)
-  IsEnding reached (KeyRefused i k e) new = finds i k (Err e) × (new.reached ≡ reached)
+  IsEnding reached (Yielded i k v) new = finds i k (Ok (Some v)) × (new.reached ≡ reached) × (i ≡ new.reached - 1)
+  IsEnding reached (KeyRefused i k e) new = finds i k (Err e) × (new.reached ≡ reached) × (i ≡ new.reached - 1)
   IsEnding reached (SegmentRefused e) new = stands reached (Err e) × (reached < count) × (new ≡ at_segment (reached + 1) [])
   IsEnding reached Finished new = (count ≤ reached) × (new ≡ at_segment reached [])
 

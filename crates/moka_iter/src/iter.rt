@@ -36,7 +36,8 @@ pub trait ScanningGet<K, V> {
     /// Returns all stored keys, each once, for segment 0; `None` for any other segment, since there
     /// is none.
     fn keys(&self, segment: usize) -> Result<Option<Vec<Arc<K>>>, Refused>
-        ensures first { segment ≡ 0 → stands self.now (key_list (keys_if (λ keys. map arc_value keys.items)) result) }
+        ensures first { segment ≡ 0 → stands self.now
+            (key_list (keys_if (λ keys. map arc_value keys.items)) result) }
         ensures some { segment ≡ 0 → IfOk result (λ keys. IsSome keys) }
         ensures none { segment ≢ 0 → result ≡ Ok None };
 }
@@ -112,7 +113,8 @@ impl<'i, K: Drop, V, G: ScanningGet<K, V>> Iterator for Iter<'i, K, V, G> {
 
     type Item = Result<(Arc<K>, V), Refused>;
 
-    ghost next_gives = { λ old result new. IteratesTo G.stands G.finds old (option_map (with_key arc_value) result) new };
+    ghost next_gives = { λ old result new. IteratesTo G.stands G.finds old
+        (option_map (with_key arc_value) result) new };
 
     ghost remaining = { λ it. at_most (calls_left (length it.caches) it.cursor) };
 

@@ -111,7 +111,8 @@ impl<K: Drop> IterPosition<K> {
         requires more { self.old.reached < S.count segments.now }
         requires fits { self.old.reached + 1 < 2 ^ 64 }
         ensures reached { self.new.reached ≡ self.old.reached + 1 }
-        ensures keys { IfOk result (λ _. S.stands segments.now self.old.reached (Ok self.new.pending)) }
+        ensures keys { IfOk result (λ _. S.stands segments.now self.old.reached
+            (Ok self.new.pending)) }
         ensures refused { IfErr result (λ e. (self.new.pending ≡ [])
             × S.stands segments.now self.old.reached (Err e)) }
     {

@@ -1,14 +1,14 @@
 -- A begin opens a turn exactly where none is open, and finds what is acceptable.
-use Rattle.std.proofs.Common.{◌≡◌, ◌↔◌, ℕ, Bool, Option, Some, None, List, [], ◌∷◌, filter, refl, ap, ◌∙◌, ◌<◌, ◌==◌, true, false, ◌++◌, inl, inr, ⊎_elim, sym, subst, arith, is_some, option_map, ◌≢◌}
-use Rattle.std.specs.Option.{option_map}
+use Rattle.std.proofs.Common.{◌≡◌, ◌↔◌, ℕ, max, if◌then◌else◌, Bool, Option, Some, None, List, [], ◌∷◌, filter, refl, ap, ◌∙◌, ◌<◌, ◌==◌, true, false, ◌++◌, inl, inr, ⊎_elim, sym, subst, arith, is_some, option_map, ◌≢◌}
+use Rattle.std.specs.Option.{IsSome, option_map}
 use Rattle.std.proofs.lemmas.Option.{same_Some}
 use Rattle.moka_model.specs.declared.turns.Kind.{Kind}
 use Rattle.moka_model.specs.declared.turns.Kind.TheVariants.{Compute, Optionally, Try, With}
-use Rattle.moka_model.specs.Lives.{Settings, Write}
+use Rattle.moka_model.specs.Lives.{Settings, Write, after_look, hit, is_live, live_one}
 use Rattle.moka_model.specs.Turns.{Name, Turn, first_of, is_open_for, IsIn, found, is_open, is_open_as, opening, same_name, AreApart}
 use Rattle.moka_model.specs.Steps.{AcceptedStep, events_in, turns}
-use Rattle.moka_model.specs.Calls.{Accepted, Entered, Entry, Run, Wait, begun, begun_compute, entry_of, live_at, new_name, Finish, accepted, reply_of_finish, finished}
-use Rattle.moka_laws.specs.TurnLaws.{ComputesExactly, FindsAcceptable, OpensExactly, ComputesAtOnce, computed_at_once, NumbersName}
+use Rattle.moka_model.specs.Calls.{Accepted, Entered, Entry, Removed, Run, Wait, begun, entry_under, removed_by, begun_compute, entry_of, live_at, new_name, Finish, accepted, reply_of_finish, finished}
+use Rattle.moka_laws.specs.TurnLaws.{LeavesLive, ComputesExactly, FindsAcceptable, OpensExactly, ComputesAtOnce, computed_at_once, NumbersName}
 use Rattle.std.specs.Cmp.{IsEquivalence}
 use Rattle.std.proofs.Math.Bool.{and-false}
 use Rattle.std.proofs.lemmas.Bool.{ne_eqb}
@@ -16,7 +16,8 @@ use Rattle.std.proofs.lemmas.Bool.Decides.{eqb_tells}
 use Rattle.moka_model.specs.declared.turns.Op.{Op}
 use Rattle.moka_model.specs.declared.turns.Op.TheVariants as ops
 use Rattle.moka_model.specs.declared.turns.Outcome.TheVariants as outcomes
-use Rattle.moka_model.specs.Events.{Event}
+use Rattle.moka_model.specs.Events.{Event, Looked, Drawn, latest}
+use Rattle.moka_model.specs.Orders.{standing}
 use Rattle.moka_model.proofs.Callers.{AllFit, turns-below, in_place, turns-apart}
 
 module _ {K V E : Type 0} (eq : K → K → Bool) (settings : Settings K V) where
@@ -72,16 +73,62 @@ module _ {K V E : Type 0} where
   other-number : (eq : K → K → Bool) (name : Name K) (t : Turn K V E) → t.name.number < name.number → is_open_as eq name t ≡ false
   other-number eq name t low = let apart = ne_eqb t.name.number name.number (λ same. omega (arith, low, same)) in rw apart (and-false (is_open t))
 
+abbrev value_of : {K V : Type 0} → Option (Write K V) → Option V
+value_of {K} {V} w = option_map (λ (u : Write K V). u.value) w
+
+max-again : (n at : ℕ) → max (max (max n at) 0) at ≡ max n at
+max-again n at = omega arith
+
+module _ {K V : Type 0} (eq : K → K → Bool) (settings : Settings K V) where
+  -- where the lookup of a live value leaves one live, it is the same value
+  looked-one : (now : ℕ) (o : Option (Write K V)) → (IsSome (live_one settings now o) → IsSome (live_one settings now (option_map (after_look settings now) o)))
+      → value_of (live_one settings now (option_map (after_look settings now) o)) ≡ value_of (live_one settings now o)
+  looked-one now None left = refl
+  looked-one now (Some w) left = go (is_live settings w now) refl left
+    where
+      hit-live : (s : Bool) → IsSome {T = Write K V} (if s then Some (hit settings now w) else None) → value_of (if s then Some (hit settings now w) else None) ≡ Some w.value
+      hit-live true lives = refl
+      hit-live false lives = cc
+
+      go : (t : Bool) → is_live settings w now ≡ t → (IsSome {T = Write K V} (if t then Some w else None) → IsSome (live_one settings now (Some (if t then hit settings now w else w))))
+          → value_of (live_one settings now (Some (if t then hit settings now w else w))) ≡ value_of (if t then Some w else None)
+      go true lives left = hit-live (is_live settings (hit settings now w) now) (left refl)
+      go false dies left = rw dies refl
+
+  looked-at : (now later : ℕ) (t : Bool) (o : Option (Write K V)) → later ≡ now → t ≡ true
+      → (IsSome (live_one settings now o) → IsSome (live_one settings later (if t then option_map (after_look settings now) o else o)))
+      → value_of (live_one settings later (if t then option_map (after_look settings now) o else o)) ≡ value_of (live_one settings now o)
+  looked-at now later false o same own = cc
+  looked-at now later true o same own =
+      subst (λ n. (IsSome (live_one settings now o) → IsSome (live_one settings n (option_map (after_look settings now) o)))
+      → value_of (live_one settings n (option_map (after_look settings now) o)) ≡ value_of (live_one settings now o)) (sym same) (looked-one now o)
+
+  looked-live : (k : K) (at : ℕ) (h : List (Event K V)) → eq k k ≡ true → (IsSome (live_at eq settings k at h) → IsSome (live_at eq settings k at (Drawn ∷ Looked k at ∷ h)))
+      → value_of (live_at eq settings k at (Drawn ∷ Looked k at ∷ h)) ≡ value_of (live_at eq settings k at h)
+  looked-live k at h own left = looked-at (max (latest h) at) (max (max (max (latest h) at) 0) at) (eq k k) (standing eq settings k h) (max-again (latest h) at) own left
+
 module _ {K V E : Type 0} (eq : K → K → Bool) (settings : Settings K V) where
+  removed-alike : (name : Name K) (o live : Option (Write K V)) → value_of o ≡ value_of live → removed_by {E = E} name o ≡ removed_by name live
+  removed-alike name None None same = refl
+  removed-alike name None (Some w) same = cc
+  removed-alike name (Some u) None same = cc
+  removed-alike name (Some u) (Some w) same = ap (λ v. Removed (entry_under name.key v)) (same_Some u.value w.value same)
+
+  removed-here : (name : Name K) (at : ℕ) (h2 : List (Event K V)) (live : Option (Write K V)) → value_of (live_at eq settings name.key at h2) ≡ value_of live
+      → removed_by {E = E} name (live_at eq settings name.key at h2) ≡ computed_at_once eq settings name.key live ops.Remove
+  removed-here name at h2 None same = removed-alike name (live_at eq settings name.key at h2) None same
+  removed-here name at h2 (Some w) same = removed-alike name (live_at eq settings name.key at h2) (Some w) same
+
   -- by the value that was live, and what is to be done
-  answered : (k : K) (h h2 : List (Event K V)) (at : ℕ) (op : Op V) (name : Name K) (live : Option (Write K V)) → name.key ≡ k → live_at eq settings k at h2 ≡ live
+  answered : (k : K) (h2 : List (Event K V)) (at : ℕ) (op : Op V) (name : Name K) (live : Option (Write K V)) → name.key ≡ k → value_of (live_at eq settings k at h2) ≡ value_of live
       → reply_of_finish {E = E} eq settings h2 (opening name (is_some live) (option_map (λ w. w.value) live)) at (outcomes.Op op) name ≡ computed_at_once eq settings k live op
-  answered k h h2 at (ops.Put v) name None keyed same = rw keyed refl
-  answered k h h2 at (ops.Put v) name (Some w) keyed same = rw keyed refl
-  answered k h h2 at ops.Remove name None keyed same = rw (keyed, same) refl
-  answered k h h2 at ops.Remove name (Some w) keyed same = rw (keyed, same) refl
-  answered k h h2 at ops.Nop name None keyed same = rw keyed refl
-  answered k h h2 at ops.Nop name (Some w) keyed same = rw keyed refl
+  answered k h2 at (ops.Put v) name None keyed same = rw keyed refl
+  answered k h2 at (ops.Put v) name (Some w) keyed same = rw keyed refl
+  answered k h2 at ops.Remove name live keyed same =
+      subst (λ q. value_of (live_at eq settings q at h2) ≡ value_of live → removed_by {E = E} name (live_at eq settings name.key at h2) ≡ computed_at_once eq settings q live ops.Remove) keyed
+      (removed-here name at h2 live) same
+  answered k h2 at ops.Nop name None keyed same = rw keyed refl
+  answered k h2 at ops.Nop name (Some w) keyed same = rw keyed refl
 
   module _ (laws : IsEquivalence eq) (ds : List (AcceptedStep K V E)) (fit : AllFit eq settings ds) (k : K) (at : ℕ) where
     abbrev own : Name K
@@ -101,16 +148,16 @@ module _ {K V E : Type 0} (eq : K → K → Bool) (settings : Settings K V) wher
 
     -- where a turn is opened it is the one that ends
     at_once : (op : Op V) (name : Name K) (shown : Option (Entry K V)) (o : Option (Turn K V E)) (begun : Accepted K V E) → Some (begun_compute eq settings (events_in ds) k true at o) ≡ Some begun → begun.reply ≡ Run name shown
-        → live_at eq settings k at (events_in (begun.step ∷ ds)) ≡ looked
+        → LeavesLive eq settings ds k at begun
         → (it : Accepted K V E) × (accepted eq settings (begun.step ∷ ds) (Finish name (outcomes.Op op) at) ≡ Some it) × (it.reply ≡ computed_at_once eq settings k looked op)
     at_once op name shown (Some t) begun is_begun runs kept = let waits : Wait (record t.name { key = k }) ≡ Run name shown = ap (λ (a : Accepted K V E). a.reply) (same_Some (begun_compute eq settings (events_in ds) k true at (Some t)) begun is_begun) ∙ runs in cc
     at_once op name shown None begun is_begun runs kept =
         let is : opened ≡ begun = same_Some opened begun is_begun in
         let ran : Run own (option_map entry_of looked) ≡ Run name shown = ap (λ (a : Accepted K V E). a.reply) is ∙ runs in
         let named : own ≡ name = cc in
-        subst (λ (b : Accepted K V E). live_at eq settings k at (events_in (b.step ∷ ds)) ≡ looked → (it : Accepted K V E) × (accepted eq settings (b.step ∷ ds) (Finish name (outcomes.Op op) at) ≡ Some it) × (it.reply ≡ computed_at_once eq settings k looked op)) is
-        (subst (λ (n : Name K). live_at eq settings k at (events_in (opened.step ∷ ds)) ≡ looked → (it : Accepted K V E) × (accepted eq settings (opened.step ∷ ds) (Finish n (outcomes.Op op) at) ≡ Some it) × (it.reply ≡ computed_at_once eq settings k looked op)) named
-        (λ same_live. (finished eq settings (events_in (opened.step ∷ ds)) own (outcomes.Op op) at turn, ap (option_map (finished eq settings (events_in (opened.step ∷ ds)) own (outcomes.Op op) at)) own-found, answered k (events_in ds) (events_in (opened.step ∷ ds)) at op own looked refl same_live))) kept
+        subst (λ (b : Accepted K V E). LeavesLive eq settings ds k at b → (it : Accepted K V E) × (accepted eq settings (b.step ∷ ds) (Finish name (outcomes.Op op) at) ≡ Some it) × (it.reply ≡ computed_at_once eq settings k looked op)) is
+        (subst (λ (n : Name K). LeavesLive eq settings ds k at opened → (it : Accepted K V E) × (accepted eq settings (opened.step ∷ ds) (Finish n (outcomes.Op op) at) ≡ Some it) × (it.reply ≡ computed_at_once eq settings k looked op)) named
+        (λ left. (finished eq settings (events_in (opened.step ∷ ds)) own (outcomes.Op op) at turn, ap (option_map (finished eq settings (events_in (opened.step ∷ ds)) own (outcomes.Op op) at)) own-found, answered k (events_in (opened.step ∷ ds)) at op own looked refl (looked-live eq settings k at (events_in ds) (laws.refl k) left)))) kept
 
   pub computes_at_once : IsEquivalence eq → (ds : List (AcceptedStep K V E)) → AllFit eq settings ds → ComputesAtOnce eq settings ds
   computes_at_once laws ds fit k at op name shown begun = at_once laws ds fit k at op name shown (found (is_open_for eq Compute k) (turns ds)) begun

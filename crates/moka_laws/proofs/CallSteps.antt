@@ -26,7 +26,7 @@ max-thrice n at = omega arith
 
 module _ {K V : Type 0} (eq : K → K → Bool) (settings : Settings K V) where
   -- what the events of a write are in each case
-  by_write : (P : List (Event K V) → Type 0) (k : K) (v : V) (at : ℕ) (h : List (Event K V)) → P (Passed at ∷ []) → P (Written k v at ∷ []) → P (Written k v at ∷ Maintained settings.flush_limit at ∷ []) → P (write_events eq settings k v at h)
+  pub by_write : (P : List (Event K V) → Type 0) (k : K) (v : V) (at : ℕ) (h : List (Event K V)) → P (Passed at ∷ []) → P (Written k v at ∷ []) → P (Written k v at ∷ Maintained settings.flush_limit at ∷ []) → P (write_events eq settings k v at h)
   by_write P k v at h passed written flushed =
       cond_both (stores_nothing settings.max_capacity) (Passed at ∷ []) (Written k v at ∷ flush eq settings at h) P
       (λ _. passed)

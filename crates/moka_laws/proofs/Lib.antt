@@ -1,6 +1,7 @@
 pub mod Admissions
 pub mod Arrivals
 pub mod Begins
+pub mod CallEvents
 pub mod Callers
 pub mod CallSteps
 pub mod Conserved

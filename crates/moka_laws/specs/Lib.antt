@@ -1,7 +1,17 @@
 pub mod AdmissionLaws
+pub mod BoundLaws
+pub mod CallLaws
+pub mod Each
+pub mod FrequencyLaws
 pub mod HidingLaws
 pub mod Laws
 pub mod OwnLifeLaws
+pub mod PlaceLaws
+pub mod QueueLaws
+pub mod SketchLaws
+pub mod StandingLaws
+pub mod StepLaws
+pub mod TicketLaws
 pub mod TurnLaws
 pub mod Worked
 pub mod WorkedAdmission
@@ -25,6 +35,7 @@ pub use Rattle.moka_model.specs.Removals
 pub use Rattle.moka_model.specs.SizeLaws
 pub use Rattle.moka_model.specs.StandsFor
 pub use Rattle.moka_model.specs.Steps
+pub use Rattle.moka_policy.specs.Building
 pub use Rattle.moka_policy.specs.Frequency
 pub use Rattle.moka_policy.specs.NumberHash
 pub use Rattle.moka_policy.specs.Policy

@@ -1,6 +1,6 @@
 -- The terms of the laws about turns, over lists of accepted steps.
-use Rattle.std.specs.Prelude.{⊤, ◌≡◌, ◌≢◌, ◌↔◌, ◌≤◌, ◌<◌, ℕ, ◌+◌, ◌==◌, if◌then◌else◌, true, false, Bool, Option, Some, None}
-use Rattle.std.specs.Prelude.{List, [], ◌∷◌, ◌++◌, filter}
+use Rattle.std.specs.Prelude.{⊤, ◌≡◌, ◌≢◌, ◌↔◌, ◌⊎◌, ◌≤◌, ◌<◌, ℕ, ◌+◌, ◌==◌, if◌then◌else◌, true, false, Bool, Option, Some, None, List}
+use Rattle.std.specs.Prelude.{[], ◌∷◌, ◌++◌, filter, max, is_some, IsSome}
 use Rattle.moka_model.specs.declared.turns.Kind.{Kind}
 use Rattle.moka_model.specs.declared.turns.Kind.TheVariants.{Compute}
 use Rattle.moka_model.specs.declared.turns.Outcome.{Outcome}
@@ -8,9 +8,12 @@ use Rattle.moka_model.specs.declared.turns.Op.{Op}
 use Rattle.moka_model.specs.declared.turns.Op.TheVariants as ops
 use Rattle.moka_model.specs.declared.turns.Outcome.TheVariants as outcomes
 use Rattle.moka_model.specs.Lives.{Settings, Write}
+use Rattle.moka_model.specs.Events.{Event, Written, latest}
+use Rattle.moka_model.specs.Orders.{live}
 use Rattle.moka_model.specs.Numbers.{next_number}
 use Rattle.moka_model.specs.Turns.{Name, Turn, End, Value, Nothing, Failed, Computed, Abandoned, Move, Opened, Waited, Ended, Spent}
-use Rattle.moka_model.specs.Turns.{AreApart, AreHeld, IsIn, is_held, is_open_for, moved_by, same_name}
+use Rattle.moka_model.specs.Turns.{AreApart, AreHeld, IsIn, fits, found, has_ticket_as, is_held, is_open_as, is_open_for, moved_by}
+use Rattle.moka_model.specs.Turns.{same_name}
 use Rattle.moka_model.specs.Steps.{AcceptedStep, events_in, held_turns, turns}
 use Rattle.moka_model.specs.Calls.{Call, Begin, BeginCompute, Finish, Abandon, Collect, Leave, Accepted, Reply, Entered, Entry, Run, Wait}
 use Rattle.moka_model.specs.Calls.{GaveNothing, GaveError, NotYet, WasAbandoned, HasEnded}
@@ -150,11 +153,15 @@ module _ {K V E : Type 0} (eq : K → K → Bool) (settings : Settings K V) wher
   computed_at_once k None ops.Nop = StillNone k
   computed_at_once k (Some w) ops.Nop = Unchanged (entry_under k w.value)
 
-  -- A compute that keeps a clone returns that, if its lookup does not change the live entry.
+  -- The lookup of this begin leaves the key's value live: if one was live before it, one is live after it.
+  abbrev pub LeavesLive : List (AcceptedStep K V E) → K → ℕ → Accepted K V E → Type 0
+  LeavesLive ds k at begun =
+      IsSome (live_at eq settings k at (events_in ds)) → IsSome (live_at eq settings k at (events_in (begun.step ∷ ds)))
+
+  -- A compute that keeps a clone returns that, if its lookup leaves the value live.
   abbrev pub ComputesAtOnce : List (AcceptedStep K V E) → Type 0
   ComputesAtOnce ds = (k : K) (at : ℕ) (op : Op V) (name : Name K) (shown : Option (Entry K V)) (begun : Accepted K V E)
-      → accepted eq settings ds (BeginCompute k true at) ≡ Some begun → begun.reply ≡ Run name shown
-      → live_at eq settings k at (events_in (begun.step ∷ ds)) ≡ live_at eq settings k at (events_in ds)
+      → accepted eq settings ds (BeginCompute k true at) ≡ Some begun → begun.reply ≡ Run name shown → LeavesLive ds k at begun
       → (it : Accepted K V E) × (accepted eq settings (begun.step ∷ ds) (Finish name (outcomes.Op op) at) ≡ Some it)
       × (it.reply ≡ computed_at_once k (live_at eq settings k at (events_in ds)) op)
 
@@ -163,6 +170,21 @@ module _ {K V E : Type 0} (eq : K → K → Bool) (settings : Settings K V) wher
   FindsAcceptable ds = (k : K) (kind : Kind) → kind ≢ Compute → (replace : Option Bool) (at : ℕ) (e : Entry K V) (it : Accepted K V E)
       → accepted eq settings ds (Begin k kind replace at) ≡ Some it → it.reply ≡ Entered e
       → (w : Write K V) × (acceptable replace (live_at eq settings k at (events_in ds)) ≡ Some w) × (e ≡ entry_of w)
+
+  -- What a finish with a value tells. Its entry says whether the value was written over a live one, and the end of its
+  -- turn says the same. That is one which was live just before the write, after the flush if there was one.
+  pub record TellsReplaced (ds : List (AcceptedStep K V E)) (name : Name K) (v : V) (at : ℕ) (it : Accepted K V E) : Type 0 where
+    pub replaced : Bool
+    pub number : ℕ
+    pub reply : it.reply ≡ Entered (fresh_entry name.key v replaced)
+    pub ends : it.step.move ≡ Some (Ended number (Value v replaced))
+    pub before : (before : List (Event K V)) → it.step.events ≡ Written name.key v at ∷ before
+        → replaced ≡ is_some (live eq settings name.key (max (latest (events_in ds)) at) (before ++ events_in ds))
+
+  -- Each finish with a value tells that.
+  abbrev pub FinishTells : List (AcceptedStep K V E) → Type 0
+  FinishTells ds = (name : Name K) (v : V) (at : ℕ) (it : Accepted K V E)
+      → accepted eq settings ds (Finish name (outcomes.Value v) at) ≡ Some it → TellsReplaced ds name v at it
 
   -- Each step of the list is that of an accepted call, which shows what the step does to turns.
   abbrev pub MovesShow : List (AcceptedStep K V E) → Type 0
@@ -192,3 +214,37 @@ module _ {K V E : Type 0} (eq : K → K → Bool) (settings : Settings K V) wher
     pub failed : (name : Name K) (e : E) → Collects ds name (GaveError e) → IsOutcome eq ds name (Failed e)
     pub computed : (name : Name K) → Collects ds name HasEnded → IsOutcome eq ds name Computed
     pub abandoned : (name : Name K) → Collects ds name WasAbandoned → IsOutcome eq ds name Abandoned
+
+  -- A finish is rejected exactly if its outcome does not fit the kind, or no open turn has the name.
+  abbrev pub FinishIsRejectedExactly : List (AcceptedStep K V E) → Type 0
+  FinishIsRejectedExactly ds = (name : Name K) (outcome : Outcome V E) (at : ℕ) →
+      (accepted eq settings ds (Finish name outcome at) ≡ None)
+      ↔ ((fits name.kind outcome ≡ false) ⊎ (found (is_open_as eq name) (turns ds) ≡ None))
+
+  -- An abandon is rejected exactly if no open turn has the name.
+  abbrev pub AbandonIsRejectedExactly : List (AcceptedStep K V E) → Type 0
+  AbandonIsRejectedExactly ds = (name : Name K) →
+      (accepted eq settings ds (Abandon name) ≡ None) ↔ (found (is_open_as eq name) (turns ds) ≡ None)
+
+  -- A collect is rejected exactly if no turn of the name has an unspent ticket.
+  abbrev pub CollectIsRejectedExactly : List (AcceptedStep K V E) → Type 0
+  CollectIsRejectedExactly ds = (name : Name K) →
+      (accepted eq settings ds (Collect name) ≡ None) ↔ (found (has_ticket_as eq name) (turns ds) ≡ None)
+
+  -- A leave is rejected exactly if none has.
+  abbrev pub LeaveIsRejectedExactly : List (AcceptedStep K V E) → Type 0
+  LeaveIsRejectedExactly ds = (name : Name K) →
+      (accepted eq settings ds (Leave name) ≡ None) ↔ (found (has_ticket_as eq name) (turns ds) ≡ None)
+
+module _ {K V E : Type 0} where
+  -- No more tickets of a turn are spent than waits were done for it.
+  abbrev pub SpendsNoMore : List (AcceptedStep K V E) → Type 0
+  SpendsNoMore ds = (number : ℕ) → spent_of number ds ≤ waits_of number ds
+
+  -- A turn ends at most once.
+  abbrev pub EndsOnce : List (AcceptedStep K V E) → Type 0
+  EndsOnce ds = (number : ℕ) → ends_of number ds ≤ 1
+
+-- Two values are unequal by a test, in either order.
+abbrev pub AreUnequal : {A : Type 0} → (A → A → Bool) → A → A → Type 0
+AreUnequal eq a b = (eq a b ≡ false) × (eq b a ≡ false)

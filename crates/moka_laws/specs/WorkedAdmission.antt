@@ -55,6 +55,10 @@ asked_once = Written 4 41 14 ∷ Looked 4 13 ∷ Maintained None 12 ∷ fourth_c
 abbrev pub asked_twice : List (Event ℕ ℕ)
 asked_twice = Written 4 42 17 ∷ Looked 4 16 ∷ Maintained None 15 ∷ asked_once
 
+-- Then it is admitted, and the third is evicted.
+abbrev pub fourth_enters : List (Event ℕ ℕ)
+fourth_enters = Maintained None 18 ∷ asked_twice
+
 -- Three keys of weights 10, 15 and 5, in access order 3, 1, 2.
 abbrev pub three_weighed : List (Event ℕ ℕ)
 three_weighed =
@@ -69,6 +73,10 @@ fourth_tries (suc n) = Looked 4 11 ∷ Maintained None 11 ∷ Written 4 15 11 �
 -- After four such times it is written with another value,
 abbrev pub fourth_again : List (Event ℕ ℕ)
 fourth_again = Written 4 115 12 ∷ fourth_tries 4
+
+-- it is admitted, and the third and the first are evicted,
+abbrev pub fourth_fits : List (Event ℕ ℕ)
+fourth_fits = Maintained None 13 ∷ fourth_again
 
 -- all are looked up, and the second gets heavier,
 abbrev pub second_heavier : List (Event ℕ ℕ)
@@ -102,3 +110,7 @@ two_heaviest = Written 2 4294967295 0 ∷ Written 1 4294967295 0 ∷ []
 -- Hits at 4 s and at 6 s.
 abbrev pub hit_twice : List (Event ℕ ℕ)
 hit_twice = Looked 1 (seconds 6) ∷ Looked 1 (seconds 4) ∷ written
+
+-- A value is written after 2 s and looked up after 5 s.
+abbrev pub three_seconds_old : List (Event ℕ ℕ)
+three_seconds_old = Looked 1 (seconds 5) ∷ Written 1 7 (seconds 2) ∷ []

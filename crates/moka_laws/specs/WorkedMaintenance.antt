@@ -1,7 +1,7 @@
 -- Queues of the worked cases of a maintenance. Keys are numbers.
-use Rattle.std.specs.Prelude.{ℕ, ◌==◌, Bool, true, false, if◌then◌else◌, nat_lt, List, [], ◌∷◌}
+use Rattle.std.specs.Prelude.{ℕ, ◌==◌, Bool, true, false, if◌then◌else◌, nat_lt, Option, Some, None, List, [], ◌∷◌}
 use Rattle.moka_model.specs.Maintenance.{Queues, total}
-use Rattle.moka_model.specs.MaintenanceLaws.{queues}
+use Rattle.moka_model.specs.MaintenanceLaws.{queues, evicted_within, after_within}
 
 -- Every key weighs 1.
 abbrev pub one : ℕ → ℕ
@@ -42,3 +42,21 @@ two_wait = queues (1 ∷ 2 ∷ []) (3 ∷ 4 ∷ [])
 -- The keys 1, 2 and 3 are resident, and 4, 5 and 6 are pending.
 abbrev pub three_wait : Queues ℕ
 three_wait = queues (1 ∷ 2 ∷ 3 ∷ []) (4 ∷ 5 ∷ 6 ∷ [])
+
+module _ (weight : ℕ → ℕ) (capacity : ℕ) (wins : ℕ → List ℕ → Bool) where
+  -- What a full maintenance at a capacity evicts, if every key is live.
+  abbrev pub evicts : Queues ℕ → List ℕ
+  evicts q = evicted_within weight (Some capacity) all_live wins None q
+
+  -- The queues that it leaves.
+  abbrev pub leaves : Queues ℕ → Queues ℕ
+  leaves q = after_within weight (Some capacity) all_live wins None q
+
+module _ (capacity : ℕ) (limit : Option ℕ) where
+  -- What a maintenance within a limit evicts of the six keys, of which 2 and 5 are dead, under LRU.
+  abbrev pub evicted_of_six : List ℕ
+  evicted_of_six = evicted_within one (Some capacity) two_and_five_dead least_recently_used limit three_wait
+
+  -- The queues that it leaves.
+  abbrev pub left_of_six : Queues ℕ
+  left_of_six = after_within one (Some capacity) two_and_five_dead least_recently_used limit three_wait

@@ -15,12 +15,23 @@ pub mod own_life_laws;
 pub mod size_laws;
 pub mod sketch_laws;
 pub mod turn_laws;
+#[doc(hidden)]
 pub mod worked;
+#[doc(hidden)]
 pub mod worked_admission;
+#[doc(hidden)]
+pub mod worked_building;
+#[doc(hidden)]
 pub mod worked_calls;
+#[doc(hidden)]
 pub mod worked_expiry;
+#[doc(hidden)]
 pub mod worked_frequency;
+#[doc(hidden)]
 pub mod worked_maintenance;
+#[doc(hidden)]
 pub mod worked_size;
+#[doc(hidden)]
 pub mod worked_sketch;
+#[doc(hidden)]
 pub mod worked_turns;

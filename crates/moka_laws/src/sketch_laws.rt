@@ -1,9 +1,11 @@
 //! Laws about the frequency sketch, for every list of notes.
 //!
 //! Each is the contract of a function without code.
-ghost use Rattle.std.specs.Prelude.{◌≡◌, ◌≢◌, ℕ, ◌+◌, ◌*◌, ◌/◌, ◌%◌, ◌<◌, ◌≤◌, List, [], ◌∷◌, ◌++◌, length, filter, replicate, reverse, min, nat_eq};
-ghost use Rattle.moka_policy.specs.Frequency.{Counts, after_notes, counter_count, halved};
-ghost use Rattle.moka_sketch.specs.Sketch.{place, least, estimated, estimate_after, count_after};
+ghost use Rattle.std.specs.Prelude.{◌≡◌, ℕ, ◌<◌, ◌≤◌, List, [], reverse};
+ghost use Rattle.moka_policy.specs.Frequency.{after_notes};
+ghost use Rattle.moka_sketch.specs.Sketch.{least, estimate_after, count_after};
+ghost use Rattle.moka_laws.specs.SketchLaws.{SharedEstimatesAlike, NoteRaises, NoteLowersNone, NoteIsHalved, HalvesEstimates, IsNotTooLow};
+ghost use Rattle.moka_laws.specs.SketchLaws.{TakesTheLeast, IsExactAlone};
 
 use moka_policy::frequency::FrequencySource;
 use moka_sketch::frequency_sketch::FrequencySketch;
@@ -15,10 +17,13 @@ use moka_sketch::frequency_sketch::FrequencySketch;
 /// all four counters have the same estimate.
 pub fn a_sketch_takes_the_least_of_four<const BITS: u32>()
     ensures kept { (notes : List ℕ) (hash : ℕ)
-        → ⟦<FrequencySketch<BITS> as FrequencySource>⟧.count (after_notes ⟦<FrequencySketch<BITS> as FrequencySource>⟧.opened ⟦<FrequencySketch<BITS> as FrequencySource>⟧.noted (reverse notes)) hash ≡ least (count_after BITS hash notes) }
+        → ⟦<FrequencySketch<BITS> as FrequencySource>⟧.count
+        (after_notes ⟦<FrequencySketch<BITS> as FrequencySource>⟧.opened
+        ⟦<FrequencySketch<BITS> as FrequencySource>⟧.noted (reverse notes)) hash
+        ≡ least (count_after BITS hash notes) }
     ensures at_most_15 { (notes : List ℕ) (hash : ℕ) → estimate_after BITS notes hash ≤ 15 }
     ensures nothing { (hash : ℕ) → estimate_after BITS [] hash ≡ 0 }
-    ensures shared { (counts : Counts) (a b : ℕ) → ((row : ℕ) → row < 4 → place BITS row a ≡ place BITS row b) → estimated BITS counts a ≡ estimated BITS counts b }
+    ensures shared { SharedEstimatesAlike BITS }
 {}
 
 /// A note raises the estimate of its hash by 1, up to 15, and lowers none.
@@ -26,14 +31,10 @@ pub fn a_sketch_takes_the_least_of_four<const BITS: u32>()
 /// With every 10 notes for each counter of a row the estimates are halved, rounded down, after that
 /// note is counted.
 pub fn a_note_raises_an_estimate<const BITS: u32>()
-    ensures raised { (notes : List ℕ) (hash : ℕ) → (length notes + 1) % (10 * counter_count BITS) ≢ 0
-        → estimate_after BITS (notes ++ hash ∷ []) hash ≡ min (estimate_after BITS notes hash + 1) 15 }
-    ensures not_lowered { (notes : List ℕ) (note hash : ℕ) → (length notes + 1) % (10 * counter_count BITS) ≢ 0
-        → estimate_after BITS notes hash ≤ estimate_after BITS (notes ++ note ∷ []) hash }
-    ensures raised_and_halved { (notes : List ℕ) (hash : ℕ) → (length notes + 1) % (10 * counter_count BITS) ≡ 0
-        → estimate_after BITS (notes ++ hash ∷ []) hash ≡ min (estimate_after BITS notes hash + 1) 15 / 2 }
-    ensures halved { (counts : Counts) (hash : ℕ) → length counts.counters ≡ 4 * counter_count BITS
-        → estimated BITS (halved counts) hash ≡ estimated BITS counts hash / 2 }
+    ensures raised { NoteRaises BITS }
+    ensures not_lowered { NoteLowersNone BITS }
+    ensures raised_and_halved { NoteIsHalved BITS }
+    ensures halved { HalvesEstimates BITS }
 {}
 
 /// An estimate is never too low for the notes since the last halving.
@@ -42,9 +43,7 @@ pub fn a_note_raises_an_estimate<const BITS: u32>()
 /// least, over the four rows, of how many notes used the hash's counter, up to 15. So it is exact
 /// if only one hash is noted.
 pub fn no_estimate_is_too_low<const BITS: u32>()
-    ensures at_least { (earlier since : List ℕ) (hash : ℕ) → length earlier % (10 * counter_count BITS) ≡ 0 → length since < 10 * counter_count BITS
-        → min (length (filter (λ note. nat_eq note hash) since)) 15 ≤ estimate_after BITS (earlier ++ since) hash }
-    ensures counted { (notes : List ℕ) (hash : ℕ) → length notes < 10 * counter_count BITS
-        → estimate_after BITS notes hash ≡ least (λ row. min (length (filter (λ note. nat_eq (place BITS row note) (place BITS row hash)) notes)) 15) }
-    ensures alone { (hash count : ℕ) → count < 10 * counter_count BITS → estimate_after BITS (replicate count hash) hash ≡ min count 15 }
+    ensures at_least { IsNotTooLow BITS }
+    ensures counted { TakesTheLeast BITS }
+    ensures alone { IsExactAlone BITS }
 {}

@@ -1,8 +1,10 @@
 //! Worked cases of an expiry made of closures: each closure gets the right arguments, in the right
 //! places.
-ghost use Rattle.std.specs.Prelude.{◌≡◌, ℕ, Some, None, option_map};
+ghost use Rattle.std.specs.Prelude.{ℕ, Some, None, option_map};
 ghost use Rattle.std.specs.Duration.{as_nanos};
 ghost use Rattle.moka_model.specs.Lives.{Lifetimes};
+ghost use Rattle.moka_laws.specs.WorkedExpiry.{by_moments, by_rest};
+ghost use Rattle.moka_laws.specs.WorkedExpiry.{AreLives};
 
 use moka_policy::expiry::{ExpireBy, Expiry};
 use std::time::Duration;
@@ -17,9 +19,8 @@ fn lives<E: Expiry<u64, u64>>(
 ) -> (Option<Duration>, Option<Duration>, Option<Duration>)
     requires { (lives : Lifetimes ℕ ℕ) × E.gives expiry.now lives }
     ensures { (lives : Lifetimes ℕ ℕ) → E.gives expiry.now lives
-        → (option_map as_nanos result.0 ≡ lives.created 1 2 3)
-        × (option_map as_nanos result.1 ≡ lives.read 1 2 10 (option_map as_nanos rest) 4)
-        × (option_map as_nanos result.2 ≡ lives.updated 1 2 8 (option_map as_nanos rest)) }
+        → AreLives result (lives.created 1 2 3) (lives.read 1 2 10 (option_map as_nanos rest) 4)
+        (lives.updated 1 2 8 (option_map as_nanos rest)) }
 {
     (
         expiry.expire_after_create(&1, &2, 3),
@@ -33,7 +34,7 @@ fn lives<E: Expiry<u64, u64>>(
 /// A creation at 3 and an update at 8 give as many nanoseconds. A lookup at 10 gives the 6 ns since
 /// the write at 4.
 pub fn closures_are_told_the_moments() -> (Option<Duration>, Option<Duration>, Option<Duration>)
-    ensures { (option_map as_nanos result.0 ≡ Some 3) × (option_map as_nanos result.1 ≡ Some 6) × (option_map as_nanos result.2 ≡ Some 8) }
+    ensures { AreLives result (Some 3) (Some 6) (Some 8) }
 {
     let by_moments = ExpireBy::new(
         |_key: &u64, _value: &u64, created_at: u64| Some(Duration::from_nanos(created_at)),
@@ -50,7 +51,7 @@ pub fn closures_are_told_the_moments() -> (Option<Duration>, Option<Duration>, O
 /// Returns lifetimes computed from the rest: the 5 ns that are left stay after a lookup and after
 /// an update.
 pub fn closures_are_told_the_rest() -> (Option<Duration>, Option<Duration>, Option<Duration>)
-    ensures { (option_map as_nanos result.0 ≡ None) × (option_map as_nanos result.1 ≡ Some 5) × (option_map as_nanos result.2 ≡ Some 5) }
+    ensures { AreLives result None (Some 5) (Some 5) }
 {
     let by_rest = ExpireBy::new(
         |_key: &u64, _value: &u64, _created_at: u64| None,

@@ -20,7 +20,8 @@ pub fn a_table_of_one_counter()
 /// not. All are halved with the 640th note, and not before.
 pub fn a_table_of_six_bits()
     ensures counters { counter_count 6 ≡ 64 }
-    ensures shared { (counts : Counts) (a b : ℕ) → a % 64 ≡ b % 64 → estimated 6 counts a ≡ estimated 6 counts b }
+    ensures shared { (counts : Counts) (a b : ℕ) → a % 64 ≡ b % 64
+        → estimated 6 counts a ≡ estimated 6 counts b }
     ensures low_bits { estimate_after 6 (5 ∷ 69 ∷ 133 ∷ []) 197 ≡ 3 }
     ensures apart { estimate_after 6 (5 ∷ 69 ∷ 133 ∷ []) 6 ≡ 0 }
     ensures before_the_halving { estimate_after 6 (replicate 9 6 ++ replicate 630 5) 5 ≡ 15 }

@@ -1,6 +1,6 @@
 //! Worked cases of the frequency sketch. The prover computes each.
-ghost use Rattle.std.specs.Prelude.{◌≡◌, ℕ, [], ◌∷◌, ◌++◌, length, replicate};
-ghost use Rattle.moka_policy.specs.Frequency.{Counts, counter_count};
+ghost use Rattle.std.specs.Prelude.{◌≡◌, [], ◌∷◌, ◌++◌, length, replicate};
+ghost use Rattle.moka_policy.specs.Frequency.{counter_count};
 ghost use Rattle.moka_sketch.specs.Sketch.{place, none_noted, estimate_after};
 
 /// A sketch of one counter in each row counts every note, and is halved with each tenth one.
@@ -40,7 +40,8 @@ pub fn a_sketch_of_two_bits()
 /// If four other hashes share one counter each with a hash, that hash counts as noted although it
 /// was not.
 pub fn a_sketch_that_is_too_high()
-    ensures too_high { estimate_after 2 (1 ∷ 16_384 ∷ 268_435_456 ∷ 4_398_046_511_104 ∷ []) 4_398_314_962_945 ≡ 1 }
+    ensures too_high { estimate_after 2 (1 ∷ 16_384 ∷ 268_435_456 ∷ 4_398_046_511_104 ∷ [])
+        4_398_314_962_945 ≡ 1 }
     ensures once_each { estimate_after 2 (1 ∷ 16_384 ∷ 268_435_456 ∷ 4_398_046_511_104 ∷ []) 1 ≡ 1 }
 {}
 

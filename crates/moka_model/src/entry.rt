@@ -1,7 +1,7 @@
 //! The entry that selectors, loaders and computes return.
 ghost use Rattle.std.specs.Prelude.{◌≡◌};
 ghost use Rattle.std.specs.Arc.{arc_value};
-ghost use Rattle.moka_model.specs.Entries.{entry_of};
+ghost use Rattle.moka_model.specs.Entries.{entry_of, entry_with};
 
 use std::sync::Arc;
 
@@ -19,12 +19,8 @@ pub struct Entry<K, V> {
 impl<K, V> Entry<K, V> {
     /// Creates an entry from its key, its value and its two flags.
     pub fn new(key: Arc<K>, value: V, is_fresh: bool, is_old_value_replaced: bool) -> Self
-        ensures { entry_of result ≡ record {
-          key = arc_value key;
-          value = value;
-          fresh = is_fresh;
-          replaced = is_old_value_replaced;
-        } }
+        ensures { entry_of result
+            ≡ entry_with (arc_value key) value is_fresh is_old_value_replaced }
     {
         Entry {
             key,

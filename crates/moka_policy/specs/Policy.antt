@@ -5,6 +5,7 @@ use Rattle.std.specs.declared.time.Duration.{Duration}
 use Rattle.moka_policy.specs.declared.policy.EvictionPolicy.{EvictionPolicy}
 use Rattle.moka_policy.specs.declared.policy.Kind.{Kind}
 use Rattle.moka_policy.specs.declared.policy.Kind.TheVariants.{Lru, TinyLfu}
+use Rattle.moka_policy.specs.declared.policy.Policy.{Policy}
 
 -- Whether a kind of policy is least recently used.
 abbrev pub is_lru_kind : Kind → Bool
@@ -14,6 +15,16 @@ is_lru_kind TinyLfu = false
 -- Whether a policy is least recently used.
 abbrev pub is_lru : EvictionPolicy → Bool
 is_lru policy = is_lru_kind policy.kind
+
+-- The policy of these four settings.
+abbrev pub policy_with : Option ℕ → ℕ → Option Duration → Option Duration → Policy
+policy_with max_capacity num_segments time_to_live time_to_idle =
+    record {
+      max_capacity = max_capacity;
+      num_segments = num_segments;
+      time_to_live = time_to_live;
+      time_to_idle = time_to_idle;
+    }
 
 -- A closure computes a weight: it can be called with references to any key and value, and returns their weight.
 abbrev pub IsWeighing : {K V KeyRef ValueRef : Type 0} → (KeyRef → K) → (ValueRef → V) → (KeyRef → ValueRef → Type 0) →

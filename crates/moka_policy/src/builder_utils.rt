@@ -49,7 +49,8 @@ pub fn ensure_expirations(
     ensures accepted { OnOk result
         (too_long_of (option_map as_nanos time_to_live) (option_map as_nanos time_to_idle) ≡ None) }
     ensures refused { IfErr result (λ cause.
-        too_long_of (option_map as_nanos time_to_live) (option_map as_nanos time_to_idle) ≡ Some cause) }
+        too_long_of (option_map as_nanos time_to_live) (option_map as_nanos time_to_idle)
+        ≡ Some cause) }
 {
     if is_too_long(time_to_live) {
         return Err(BuildError::TimeToLiveTooLong);
@@ -69,7 +70,8 @@ pub fn ensure_expirations(
 /// - `FlushLimitWithWeigher`: the limit is not 0, and a weigher is set.
 pub fn ensure_flush_limit(flush_limit: Option<u64>, has_weigher: bool) -> Result<(), BuildError>
     ensures accepted { OnOk result (flush_refused_of flush_limit has_weigher ≡ None) }
-    ensures refused { IfErr result (λ cause. flush_refused_of flush_limit has_weigher ≡ Some cause) }
+    ensures refused { IfErr result
+        (λ cause. flush_refused_of flush_limit has_weigher ≡ Some cause) }
 {
     match flush_limit {
         Some(0) => Err(BuildError::ZeroFlushLimit),

@@ -34,7 +34,8 @@ pub trait Expiry<K, V> {
     /// Returns the lifetime of a value that was written at `created_at` where no live value was.
     fn expire_after_create(&self, key: &K, value: &V, created_at: u64) -> Option<Duration>
         requires { (lives : Lifetimes K V) × gives self.now lives }
-        ensures { (lives : Lifetimes K V) → gives self.now lives → option_map as_nanos result ≡ lives.created key.now value.now created_at };
+        ensures { (lives : Lifetimes K V) → gives self.now lives
+            → option_map as_nanos result ≡ lives.created key.now value.now created_at };
 
     /// Returns the lifetime of a value that a recorded lookup found at `read_at`.
     ///
@@ -49,7 +50,9 @@ pub trait Expiry<K, V> {
         written_at: u64,
     ) -> Option<Duration>
         requires { (lives : Lifetimes K V) × gives self.now lives }
-        ensures { (lives : Lifetimes K V) → gives self.now lives → option_map as_nanos result ≡ lives.read key.now value.now read_at (option_map as_nanos rest) written_at };
+        ensures { (lives : Lifetimes K V) → gives self.now lives
+            → option_map as_nanos result
+            ≡ lives.read key.now value.now read_at (option_map as_nanos rest) written_at };
 
     /// Returns the lifetime of a value that was written at `updated_at` over a live value.
     ///
@@ -62,7 +65,9 @@ pub trait Expiry<K, V> {
         rest: Option<Duration>,
     ) -> Option<Duration>
         requires { (lives : Lifetimes K V) × gives self.now lives }
-        ensures { (lives : Lifetimes K V) → gives self.now lives → option_map as_nanos result ≡ lives.updated key.now value.now updated_at (option_map as_nanos rest) };
+        ensures { (lives : Lifetimes K V) → gives self.now lives
+            → option_map as_nanos result
+            ≡ lives.updated key.now value.now updated_at (option_map as_nanos rest) };
 }
 
 /// An expiry that gives no entry a lifetime: the type of a cache's expiry if none is set.
@@ -129,9 +134,12 @@ where
     U: Fn(&K, &V, u64, Option<Duration>) -> Option<Duration>,
 {
     ghost gives = { λ by lives.
-        IsCreating (λ key. key.now) (λ value. value.now) (C.pre by.create) (C.post by.create) lives.created
-        × IsReading (λ key. key.now) (λ value. value.now) (R.pre by.read) (R.post by.read) lives.read
-        × IsUpdating (λ key. key.now) (λ value. value.now) (U.pre by.update) (U.post by.update) lives.updated };
+        IsCreating (λ key. key.now) (λ value. value.now) (C.pre by.create) (C.post by.create)
+        lives.created
+        × IsReading (λ key. key.now) (λ value. value.now) (R.pre by.read) (R.post by.read)
+        lives.read
+        × IsUpdating (λ key. key.now) (λ value. value.now) (U.pre by.update) (U.post by.update)
+        lives.updated };
 
     fn expire_after_create(&self, key: &K, value: &V, created_at: u64) -> Option<Duration> {
         (self.create)(key, value, created_at)

@@ -67,7 +67,8 @@ impl<const BITS: u32> Model for CountTable<BITS> {
 
     ghost view = { λ table. record { counters = table.counters.items; notes = table.notes } };
 
-    ghost invariant = { λ table. IsTable BITS (record { counters = table.counters.items; notes = table.notes }) };
+    ghost invariant = { λ table. IsTable BITS
+        (record { counters = table.counters.items; notes = table.notes }) };
 }
 
 impl<const BITS: u32> FrequencySource for CountTable<BITS> {

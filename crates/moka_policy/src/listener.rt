@@ -34,11 +34,13 @@ impl<F> ListenBy<F> {
 }
 
 impl<K, V, F: Fn(Arc<K>, V, RemovalCause)> Listener<K, V> for ListenBy<F> {
-    ghost hears = { λ by key value. (shared : Arc K Global) (cause : RemovalCause) → arc_value shared ≡ key → F.pre by.listen shared value cause };
+    ghost hears = { λ by key value. (shared : Arc K Global) (cause : RemovalCause)
+        → arc_value shared ≡ key → F.pre by.listen shared value cause };
 
     // Calls the closure with exactly these arguments.
     fn removed(&self, key: Arc<K>, value: V, cause: RemovalCause)
-        requires { (shared : Arc K Global) (cause : RemovalCause) → arc_value shared ≡ arc_value key → F.pre self.now.listen shared value cause }
+        requires { (shared : Arc K Global) (cause : RemovalCause) → arc_value shared ≡ arc_value key
+            → F.pre self.now.listen shared value cause }
         ensures { F.post self.now.listen key value cause result }
     {
         (self.listen)(key, value, cause)

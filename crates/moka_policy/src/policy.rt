@@ -2,7 +2,7 @@
 ghost use Rattle.std.specs.Prelude.{◌≡◌, ℕ, Bool, true, false, not};
 ghost use Rattle.moka_model.specs.Lives.{Lifetimes};
 ghost use Rattle.moka_policy.specs.NumberHash.{number_hash};
-ghost use Rattle.moka_policy.specs.Policy.{is_lru};
+ghost use Rattle.moka_policy.specs.Policy.{is_lru, policy_with};
 
 pub use crate::clock::{Clock, ManualClock};
 pub use crate::expiry::{ExpireBy, Expiry, NoExpiry};
@@ -44,7 +44,8 @@ pub trait CacheTypes<K: Eq, V: Clone> {
     ghost weight: { Self.Weigher → K → V → ℕ };
 
     /// Equal keys have the same weight with the same value.
-    ghost equal_keys_weigh: { (weigher : Self.Weigher) (a b : K) (v : V) → K.eq a b ≡ true → weight weigher a v ≡ weight weigher b v };
+    ghost equal_keys_weigh: { (weigher : Self.Weigher) (a b : K) (v : V) → K.eq a b ≡ true
+        → weight weigher a v ≡ weight weigher b v };
 
     /// The lifetimes of single entries, as the cache's expiry computes them.
     ghost lifetimes: { Self.Expiry → Lifetimes K V };
@@ -163,12 +164,7 @@ impl Policy {
         time_to_live: Option<Duration>,
         time_to_idle: Option<Duration>,
     ) -> Self
-        ensures { result ≡ record {
-          max_capacity = max_capacity;
-          num_segments = num_segments;
-          time_to_live = time_to_live;
-          time_to_idle = time_to_idle;
-        } }
+        ensures { result ≡ policy_with max_capacity num_segments time_to_live time_to_idle }
     {
         Policy {
             max_capacity,

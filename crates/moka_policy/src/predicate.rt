@@ -31,7 +31,8 @@ impl<F> HoldsIf<F> {
 }
 
 impl<K, V, F: Fn(&K, &V) -> bool> Predicate<K, V> for HoldsIf<F> {
-    ghost tests = { λ by test. IsTesting (λ key. key.now) (λ value. value.now) (F.pre by.holds) (F.post by.holds) test };
+    ghost tests = { λ by test. IsTesting (λ key. key.now) (λ value. value.now) (F.pre by.holds)
+        (F.post by.holds) test };
 
     fn holds(&self, key: &K, value: &V) -> bool {
         (self.holds)(key, value)

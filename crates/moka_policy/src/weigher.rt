@@ -21,7 +21,8 @@ pub trait Weigher<K, V> {
     /// keeps the result.
     fn weigh(&self, key: &K, value: &V) -> u32
         requires { (weight : K → V → ℕ) × weighs self.now weight }
-        ensures { (weight : K → V → ℕ) → weighs self.now weight → result ≡ weight key.now value.now };
+        ensures { (weight : K → V → ℕ) → weighs self.now weight
+            → result ≡ weight key.now value.now };
 }
 
 /// A weigher that calls a closure.
@@ -44,7 +45,8 @@ impl<F> WeighBy<F> {
 }
 
 impl<K, V, F: Fn(&K, &V) -> u32> Weigher<K, V> for WeighBy<F> {
-    ghost weighs = { λ by weight. IsWeighing (λ key. key.now) (λ value. value.now) (F.pre by.weigh) (F.post by.weigh) weight };
+    ghost weighs = { λ by weight. IsWeighing (λ key. key.now) (λ value. value.now) (F.pre by.weigh)
+        (F.post by.weigh) weight };
 
     fn weigh(&self, key: &K, value: &V) -> u32 {
         (self.weigh)(key, value)

@@ -28,7 +28,8 @@ use std::time::Duration;
 /// `Prim.search (T.copies_compose, composing)`. An `Arc` of any type needs no line.
 pub trait CopiesCompose: Clone {
     /// A clone of a clone is a clone.
-    ghost copies_compose: { (u v w : Self) → Self.is_clone u v → Self.is_clone v w → Self.is_clone u w };
+    ghost copies_compose: { (u v w : Self) → Self.is_clone u v → Self.is_clone v w
+        → Self.is_clone u w };
 }
 
 impl CopiesCompose for () {
@@ -128,11 +129,13 @@ impl<T: CopiesCompose, E: CopiesCompose> CopiesCompose for Result<T, E> {
 }
 
 impl<T: CopiesCompose> CopiesCompose for Vec<T> {
-    ghost copies_compose = { λ u v w a b. (each-composes T.is_clone T.copies_compose u.items v.items w.items a.0 b.0, b.1 ∙ a.1) };
+    ghost copies_compose = { λ u v w a b.
+        (each-composes T.is_clone T.copies_compose u.items v.items w.items a.0 b.0, b.1 ∙ a.1) };
 }
 
 impl<T: CopiesCompose> CopiesCompose for VecDeque<T> {
-    ghost copies_compose = { λ u v w a b. (each-composes T.is_clone T.copies_compose u.items v.items w.items a.0 b.0, b.1 ∙ a.1) };
+    ghost copies_compose = { λ u v w a b.
+        (each-composes T.is_clone T.copies_compose u.items v.items w.items a.0 b.0, b.1 ∙ a.1) };
 }
 
 impl<T: CopiesCompose, const N: usize> CopiesCompose for [T; N] {
@@ -148,33 +151,51 @@ impl<'a> CopiesCompose for CowStr<'a> {
 }
 
 impl<K: Ord + CopiesCompose> CopiesCompose for BTreeSet<K> {
-    ghost copies_compose = { λ u v w a b. each-composes K.is_clone K.copies_compose u.keys v.keys w.keys a b };
+    ghost copies_compose = { λ u v w a b. each-composes K.is_clone K.copies_compose u.keys v.keys
+        w.keys a b };
 }
 
 impl<K: Ord + CopiesCompose, V: CopiesCompose> CopiesCompose for BTreeMap<K, V> {
-    ghost copies_compose = { λ u v w a b. each-composes _ (both-compose K.is_clone V.is_clone K.copies_compose V.copies_compose) u.entries v.entries w.entries a b };
+    ghost copies_compose = { λ u v w a b. each-composes _
+        (both-compose K.is_clone V.is_clone K.copies_compose V.copies_compose) u.entries v.entries
+        w.entries a b };
 }
 
 impl<K: Eq + Hash + CopiesCompose, S: BuildHasher + Clone> CopiesCompose for HashSet<K, S> {
-    ghost copies_compose = { λ u v w a b. each-composes K.is_clone K.copies_compose u.keys v.keys w.keys a b };
+    ghost copies_compose = { λ u v w a b. each-composes K.is_clone K.copies_compose u.keys v.keys
+        w.keys a b };
 }
 
 impl<K: Eq + Hash + CopiesCompose, V: CopiesCompose, S: BuildHasher + Clone> CopiesCompose
     for HashMap<K, V, S> {
-    ghost copies_compose = { λ u v w a b. each-composes _ (both-compose K.is_clone V.is_clone K.copies_compose V.copies_compose) u.entries v.entries w.entries a b };
+    ghost copies_compose = { λ u v w a b. each-composes _
+        (both-compose K.is_clone V.is_clone K.copies_compose V.copies_compose) u.entries v.entries
+        w.entries a b };
 }
 
 impl<A: CopiesCompose, B: CopiesCompose> CopiesCompose for (A, B) {
-    ghost copies_compose = { λ u v w a b. (A.copies_compose u.0 v.0 w.0 a.0 b.0, B.copies_compose u.1 v.1 w.1 a.1 b.1) };
+    ghost copies_compose = { λ u v w a b. (
+      A.copies_compose u.0 v.0 w.0 a.0 b.0,
+      B.copies_compose u.1 v.1 w.1 a.1 b.1,
+    ) };
 }
 
 impl<A: CopiesCompose, B: CopiesCompose, C: CopiesCompose> CopiesCompose for (A, B, C) {
-    ghost copies_compose = { λ u v w a b. (A.copies_compose u.0 v.0 w.0 a.0 b.0, B.copies_compose u.1 v.1 w.1 a.1 b.1, C.copies_compose u.2 v.2 w.2 a.2 b.2) };
+    ghost copies_compose = { λ u v w a b. (
+      A.copies_compose u.0 v.0 w.0 a.0 b.0,
+      B.copies_compose u.1 v.1 w.1 a.1 b.1,
+      C.copies_compose u.2 v.2 w.2 a.2 b.2,
+    ) };
 }
 
 impl<A: CopiesCompose, B: CopiesCompose, C: CopiesCompose, D: CopiesCompose> CopiesCompose
     for (A, B, C, D) {
-    ghost copies_compose = { λ u v w a b. (A.copies_compose u.0 v.0 w.0 a.0 b.0, B.copies_compose u.1 v.1 w.1 a.1 b.1, C.copies_compose u.2 v.2 w.2 a.2 b.2, D.copies_compose u.3 v.3 w.3 a.3 b.3) };
+    ghost copies_compose = { λ u v w a b. (
+      A.copies_compose u.0 v.0 w.0 a.0 b.0,
+      B.copies_compose u.1 v.1 w.1 a.1 b.1,
+      C.copies_compose u.2 v.2 w.2 a.2 b.2,
+      D.copies_compose u.3 v.3 w.3 a.3 b.3,
+    ) };
 }
 
 impl<
@@ -184,7 +205,13 @@ impl<
     D: CopiesCompose,
     E: CopiesCompose,
 > CopiesCompose for (A, B, C, D, E) {
-    ghost copies_compose = { λ u v w a b. (A.copies_compose u.0 v.0 w.0 a.0 b.0, B.copies_compose u.1 v.1 w.1 a.1 b.1, C.copies_compose u.2 v.2 w.2 a.2 b.2, D.copies_compose u.3 v.3 w.3 a.3 b.3, E.copies_compose u.4 v.4 w.4 a.4 b.4) };
+    ghost copies_compose = { λ u v w a b. (
+      A.copies_compose u.0 v.0 w.0 a.0 b.0,
+      B.copies_compose u.1 v.1 w.1 a.1 b.1,
+      C.copies_compose u.2 v.2 w.2 a.2 b.2,
+      D.copies_compose u.3 v.3 w.3 a.3 b.3,
+      E.copies_compose u.4 v.4 w.4 a.4 b.4,
+    ) };
 }
 
 impl<
@@ -195,5 +222,12 @@ impl<
     E: CopiesCompose,
     F: CopiesCompose,
 > CopiesCompose for (A, B, C, D, E, F) {
-    ghost copies_compose = { λ u v w a b. (A.copies_compose u.0 v.0 w.0 a.0 b.0, B.copies_compose u.1 v.1 w.1 a.1 b.1, C.copies_compose u.2 v.2 w.2 a.2 b.2, D.copies_compose u.3 v.3 w.3 a.3 b.3, E.copies_compose u.4 v.4 w.4 a.4 b.4, F.copies_compose u.5 v.5 w.5 a.5 b.5) };
+    ghost copies_compose = { λ u v w a b. (
+      A.copies_compose u.0 v.0 w.0 a.0 b.0,
+      B.copies_compose u.1 v.1 w.1 a.1 b.1,
+      C.copies_compose u.2 v.2 w.2 a.2 b.2,
+      D.copies_compose u.3 v.3 w.3 a.3 b.3,
+      E.copies_compose u.4 v.4 w.4 a.4 b.4,
+      F.copies_compose u.5 v.5 w.5 a.5 b.5,
+    ) };
 }

@@ -13,7 +13,8 @@ pub trait Weighs<K: Eq, V> {
     ghost weight: { Self → K → V → ℕ };
 
     /// Equal keys weigh alike.
-    ghost equal_keys_weigh: { (says : Self) (a b : K) (v : V) → K.eq a b ≡ true → weight says a v ≡ weight says b v };
+    ghost equal_keys_weigh: { (says : Self) (a b : K) (v : V) → K.eq a b ≡ true
+        → weight says a v ≡ weight says b v };
 }
 
 /// Says which test a predicate computes.

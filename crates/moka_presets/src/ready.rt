@@ -20,7 +20,8 @@ pub trait SteadyWeigher<K: Eq, V>: Weigher<K, V> {
     ghost weight: { Self → K → V → ℕ };
 
     /// Equal keys weigh alike.
-    ghost equal_keys_weigh: { (weigher : Self) (a b : K) (v : V) → K.eq a b ≡ true → weight weigher a v ≡ weight weigher b v };
+    ghost equal_keys_weigh: { (weigher : Self) (a b : K) (v : V) → K.eq a b ≡ true
+        → weight weigher a v ≡ weight weigher b v };
 }
 
 impl<K: Eq, V> SteadyWeigher<K, V> for NoWeigher {

@@ -1,11 +1,6 @@
 //! Laws of closed histories, as contracts of functions without code.
-ghost use Rattle.std.specs.Prelude.{◌≡◌, List};
-ghost use Rattle.moka_model.specs.Lives.{Settings};
-ghost use Rattle.moka_expiration.specs.StateData.{StateData};
-ghost use Rattle.moka_state.specs.declared.step.Step.{Step};
-ghost use Rattle.moka_state.specs.declared.step.Reply.{Reply};
-ghost use Rattle.moka_state.specs.Recorded.{IsRecordUnder};
-ghost use Rattle.moka_recorded_laws.specs.LegalRun.{IsLegalRun};
+ghost use Rattle.std.specs.Prelude.{◌≡◌};
+ghost use Rattle.moka_recorded_laws.specs.LegalRun.{RecordsAreLegal};
 
 use moka_expiration::view::StateView;
 use moka_policy::policy::CacheTypes;
@@ -18,15 +13,6 @@ use std::hash::Hash;
 /// steps before it. The state stands for the steps that were accepted.
 pub fn a_history_of_equal_clones_is_legal<K: Hash + Drop, V: Clone, C: CacheTypes<K, V>>()
     ensures { ((v w : V) → V.is_clone v w → w ≡ v)
-        → (settings : Settings K V)
-        (state : StateData K V C.Hasher C.Weigher C.Expiry C.Frequency C.Error)
-        (history : List (
-        Step K V C C.Hasher C.Weigher C.Expiry C.Predicate C.Frequency C.Listener C.Clock C.Error
-        C.Hasher.Hasher
-        × Reply K V C C.Hasher C.Weigher C.Expiry C.Predicate C.Frequency C.Listener C.Clock C.Error
-        C.Hasher.Hasher))
-        → IsRecordUnder K.eq V.is_clone V.is_infallible C.test ⟦<C as StateView<K, V>>⟧.view
-        settings state history
-        → IsLegalRun K.eq V.is_clone V.is_infallible C.test ⟦<C as StateView<K, V>>⟧.view
-        settings state history }
+        → RecordsAreLegal C C.Hasher C.Weigher C.Expiry C.Frequency C.Listener C.Clock
+        C.Hasher.Hasher K.eq V.is_clone V.is_infallible C.test ⟦<C as StateView<K, V>>⟧.view }
 {}

@@ -36,10 +36,8 @@ impl<M: Machine<S, R>, S: Drop, R: Drop, L: Naming> Model for GuardedMachine<M, 
     ghost invariant = { λ d. ((built : M.Built)
         × M.stands built d.machine (pairs d.entries.items)
         × (d.token.me ≡ (recorder (Some built) d.entries.items [] None, [])))
-        × (d.token.table_id ≡ L.table)
-        × (d.book.total ≡ length d.entries.items)
-        × (d.rest.parts ≡ 0)
-        × (d.rest.amount ≡ 0) };
+        × (d.token.table_id ≡ L.table) × (d.book.total ≡ length d.entries.items)
+        × (d.rest.parts ≡ 0) × (d.rest.amount ≡ 0) };
 }
 
 impl<M: Machine<S, R>, S: Drop, R: Drop, L: Naming> GuardedMachine<M, S, R, L> {

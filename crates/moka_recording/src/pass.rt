@@ -34,8 +34,7 @@ impl<M: Machine<S, R>, S: Drop, R: Drop, L: Naming> Model for Pass<M, S, R, L> {
       claims = p.token.me.0.claims;
     } };
 
-    ghost invariant = { λ p. (p.token.table_id ≡ L.table)
-        × (p.token.me.1 ≡ [])
+    ghost invariant = { λ p. (p.token.table_id ≡ L.table) × (p.token.me.1 ≡ [])
         × AreOf M.one_step M.one_reply p.number p.token.me.0.claims p.receipts.items
         × PlacesRise p.receipts.items
         × (p.share.parts ≡ 1)

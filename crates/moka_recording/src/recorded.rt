@@ -39,10 +39,8 @@ impl<M: Machine<S, R>, S: Drop, R: Drop, L: Naming, W: Drop> Model for Recorded<
     ghost view = { λ c. record { count = c.count; built = c.witness.token.me.0.heard } };
 
     ghost invariant = { λ c. (c.history.shared.table_id ≡ L.table)
-        × (c.history.shared.table_id.words ≡ 1)
-        × (c.count ≡ L.parts)
-        × (c.witness.token.table_id ≡ L.table)
-        × (c.witness.token.me.1 ≡ [])
+        × (c.history.shared.table_id.words ≡ 1) × (c.count ≡ L.parts)
+        × (c.witness.token.table_id ≡ L.table) × (c.witness.token.me.1 ≡ [])
         × IsSome c.witness.token.me.0.heard };
 }
 

@@ -126,7 +126,8 @@ fn row_of(given: &[(usize, u64)], number: Option<usize>) -> Reply {
 
 /// Returns the row number of a key, and how many rows were read for it.
 pub fn number_of<R: RowStore<u64, u64>>(rows: &R, hashes: Hashes, key: u64) -> (Option<usize>, u64)
-    ensures { IfSome result.0 (λ number. IsSome (row_under number (R.admitted rows.now ++ R.waiting rows.now))) }
+    ensures { IfSome result.0
+        (λ number. IsSome (row_under number (R.admitted rows.now ++ R.waiting rows.now))) }
 {
     let mut reads = 0;
     let number = rows.find(&key, hash_of(hashes, key), &mut reads);

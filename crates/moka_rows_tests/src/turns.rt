@@ -11,31 +11,30 @@ const KEYS: u64 = 40;
 
 const TURNS: u64 = 3_000;
 
+/// Returns what the call of a number does with its key's row, at a moment.
+fn use_of(number: u64, moment: u64) -> Use {
+    let is_even = number % KEYS % 2 == 0;
+    match number / KEYS % 16 {
+        3 => if is_even { Use::Find } else { Use::Hash },
+        4 => if number % KEYS % 4 < 2 {
+            Use::Read
+        } else {
+            Use::IsHidden
+        },
+        5 => if is_even { Use::IsAdmitted } else { Use::Hide },
+        6 => Use::Next,
+        7 => Use::Admit,
+        8 => Use::Access(moment),
+        9 => Use::Overwrite(number, moment),
+        _ => Use::Remove,
+    }
+}
+
 /// Returns the call of a number, at a moment.
 fn call_of(number: u64, moment: u64) -> Call {
     let key = number % KEYS;
     match number / KEYS % 16 {
         0 | 1 | 2 => Call::Add(key, moment),
-        3 => if key % 2 == 0 {
-            Call::Of(key, Use::Find)
-        } else {
-            Call::Of(key, Use::Hash)
-        },
-        4 => if key % 4 < 2 {
-            Call::Of(key, Use::Read)
-        } else {
-            Call::Of(key, Use::IsHidden)
-        },
-        5 => if key % 2 == 0 {
-            Call::Of(key, Use::IsAdmitted)
-        } else {
-            Call::Of(key, Use::Hide)
-        },
-        6 => Call::Of(key, Use::Next),
-        7 => Call::Of(key, Use::Admit),
-        8 => Call::Of(key, Use::Access(moment)),
-        9 => Call::Of(key, Use::Overwrite(number, moment)),
-        10 | 11 => Call::Of(key, Use::Remove),
         12 => Call::AdmitFirst,
         13 => if key % 8 == 0 {
             Call::TakeFirst
@@ -47,11 +46,12 @@ fn call_of(number: u64, moment: u64) -> Call {
         } else {
             Call::FirstExpired(moment)
         },
-        _ => if key % 2 == 0 {
+        15 => if key % 2 == 0 {
             Call::Len
         } else {
             Call::WaitingLen
         },
+        _ => Call::Of(key, use_of(number, moment)),
     }
 }
 

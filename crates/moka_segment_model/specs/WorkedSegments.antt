@@ -1,11 +1,12 @@
 -- The settings and the calls of the worked cases of segments. Keys and values are numbers, and each key is its own
 -- hash.
-use Rattle.std.specs.Prelude.{ℕ, ◌*◌, ◌^◌, true, Option, Some, None, List, [], ◌∷◌, nat_eq}
+use Rattle.std.specs.Prelude.{ℕ, ◌*◌, ◌^◌, Bool, true, false, Option, Some, None, List, [], ◌∷◌, nat_eq, ◌==◌, not}
+use Rattle.moka_model.specs.declared.notification.RemovalCause.{RemovalCause}
 use Rattle.moka_model.specs.declared.turns.Kind.TheVariants.{With}
 use Rattle.moka_model.specs.declared.turns.Outcome.TheVariants.{Value}
 use Rattle.moka_model.specs.Lives.{no_lifetimes}
 use Rattle.moka_model.specs.Turns.{Name}
-use Rattle.moka_model.specs.Calls.{Call, Reply, Get, Insert, Invalidate, InvalidateAll}
+use Rattle.moka_model.specs.Calls.{Call, Reply, Noticed, Entered, Get, Insert, Invalidate, InvalidateAll, InvalidateIf}
 use Rattle.moka_model.specs.Calls.{RunPendingTasks, RunPendingTasksUpTo, EntryCount, TakeNotice, Begin, Finish, Abandon, Collect}
 use Rattle.moka_segment_model.specs.Segments.{SegmentedSettings, reply_in}
 
@@ -33,6 +34,14 @@ of_segments bits capacity = record {
 abbrev pub upper : ℕ
 upper = 2 ^ 63
 
+-- The result of a call that takes the notice of a removed value.
+abbrev pub noticed_as : ℕ → ℕ → RemovalCause → Option (Reply ℕ ℕ ℕ)
+noticed_as k v cause = Some (Noticed (Some (record { key = k; value = v; cause = cause })))
+
+-- The result of a call that returns an entry, which it stored itself or found.
+abbrev pub entered : ℕ → ℕ → Bool → Option (Reply ℕ ℕ ℕ)
+entered k v fresh = Some (Entered (record { key = k; value = v; fresh = fresh; replaced = false }))
+
 -- What calls return, in order, after some calls.
 abbrev pub replies_in : SegmentedSettings ℕ ℕ → List (Call ℕ ℕ ℕ) → List (Call ℕ ℕ ℕ) → List (Option (Reply ℕ ℕ ℕ))
 replies_in settings [] before = []
@@ -51,6 +60,11 @@ upper_first = Insert upper 20 0 ∷ Insert 1 10 0 ∷ Invalidate upper 1 ∷ Inv
 -- All entries are invalidated, in both segments.
 abbrev pub both_invalidated : List (Call ℕ ℕ ℕ)
 both_invalidated = Insert 1 10 0 ∷ Insert upper 20 0 ∷ InvalidateAll ∷ Get 1 0 ∷ Get upper 0 ∷ EntryCount ∷ []
+
+-- The values 10 and 30 are invalidated by a test, one in each segment. The lower segment keeps 20.
+abbrev pub invalidated_by_a_test : List (Call ℕ ℕ ℕ)
+invalidated_by_a_test =
+    Insert 1 10 0 ∷ Insert 2 20 0 ∷ Insert upper 30 0 ∷ InvalidateIf (λ k v. not (v == 20)) ∷ Get 1 0 ∷ Get 2 0 ∷ Get upper 0 ∷ []
 
 -- All entries are invalidated, and evicted by maintenances with a limit of 1.
 abbrev pub one_by_one : List (Call ℕ ℕ ℕ)

@@ -2,4 +2,5 @@
 #![tactic(auto)]
 
 pub mod segment_laws;
+#[doc(hidden)]
 pub mod worked_segments;

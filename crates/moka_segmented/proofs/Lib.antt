@@ -2,8 +2,10 @@ pub mod Asked
 pub mod Bounds
 pub mod Broadcast
 pub mod Callers
+pub mod Conserved
 pub mod Forms
 pub mod Hashing
+pub mod Maintained
 pub mod Noticing
 pub mod Numbers
 pub mod Opened

@@ -1,10 +1,12 @@
--- What a loader does if there are several segments.
-use Rattle.std.specs.Prelude.{ℕ, Bool, Option, Some, None, List, ◌∷◌, Result, Ok, Err}
+-- What a loader and a compute do if there are several segments.
+use Rattle.std.specs.Prelude.{◌≡◌, ℕ, Bool, Option, Some, None, List, ◌∷◌, Result, Ok, Err}
 use Rattle.moka_policy.specs.declared.policy.Refused.{Refused}
 use Rattle.moka_policy.specs.declared.policy.Refused.TheVariants as causes
+use Rattle.moka_model.specs.declared.turns.Op.{Op}
 use Rattle.moka_model.specs.declared.turns.Outcome.{Outcome}
+use Rattle.moka_model.specs.declared.turns.Outcome.TheVariants as outcomes
 use Rattle.moka_model.specs.Turns.{Name}
-use Rattle.moka_model.specs.Calls.{Call, Reply, Finish, Run, IsWait, IfReplied, accepted}
+use Rattle.moka_model.specs.Calls.{Call, Entry, Reply, Finish, Abandon, Done, Run, IsWait, IfReplied, accepted}
 use Rattle.moka_state.specs.Forms.{IsEntered, end_call}
 use Rattle.moka_segment_model.specs.Segments.{SegmentedSettings, segment_of_place, place_of, share_settings, steps_in}
 use Rattle.moka_segmented.specs.Turns.{GivesIn}
@@ -34,3 +36,24 @@ module _ {K V E : Type 0} (eq : K → K → Bool) (is_clone : V → V → Type 0
   IsFormIn calls begin now (Some outcome) reply Stand =
       (name : Name K) × GivesIn eq is_clone is_infallible settings calls begin (Ok (Run name None))
       × EndsTurnIn (begin ∷ calls) name outcome now reply Stand
+
+  -- The turn of a compute ends with the operation that the closure returned, or is abandoned if the closure failed.
+  abbrev pub EndsComputeIn : List (Call K V E) → Name K → Option (Op V) → ℕ → Result (Reply K V E) Refused →
+      (List (Call K V E) → Type 0) → Type 0
+  EndsComputeIn calls name (Some op) now reply Stand = EndsTurnIn calls name (outcomes.Op op) now reply Stand
+  EndsComputeIn calls name None now reply Stand = (reply ≡ Ok Done) × Stand (Abandon name ∷ calls)
+
+  -- A compute with a closure is its begin and, if that opens a turn, the end of the turn with what the closure returned,
+  -- in the key's segment. `shown` is the live entry that the closure got, and `given` what it returned, none if it did
+  -- not run.
+  abbrev pub IsComputeFormIn : List (Call K V E) → Call K V E → ℕ → Option (Entry K V) → Option (Option (Op V)) →
+      Result (Reply K V E) Refused → (List (Call K V E) → Type 0) → Type 0
+  IsComputeFormIn calls begin now shown None (Ok reply) Stand = ⊥
+  IsComputeFormIn calls begin now shown None (Err causes.TurnIsOpen) Stand =
+      IfReplied IsWait
+      (accepted eq (share_settings settings)
+      (steps_in E eq settings calls (segment_of_place (place_of E eq settings calls begin))) begin)
+  IsComputeFormIn calls begin now shown None (Err cause) Stand = GivesIn eq is_clone is_infallible settings calls begin (Err cause)
+  IsComputeFormIn calls begin now shown (Some said) reply Stand =
+      (name : Name K) × GivesIn eq is_clone is_infallible settings calls begin (Ok (Run name shown))
+      × EndsComputeIn (begin ∷ calls) name said now reply Stand

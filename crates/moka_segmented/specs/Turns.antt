@@ -6,7 +6,7 @@ use Rattle.moka_policy.specs.declared.policy.Refused.{Refused}
 use Rattle.moka_model.specs.Calls.{Call, Reply}
 use Rattle.moka_model.specs.Lives.{Settings}
 use Rattle.moka_expiration.specs.StateData.{SettingsData, StateData}
-use Rattle.moka_state.specs.declared.answers.Begun.{Begun}
+use Rattle.moka_state.specs.BegunOf.{BegunOf}
 use Rattle.moka_state.specs.Given.{Gives}
 use Rattle.moka_state.specs.Begin.{GivesBegun, TakesLive}
 use Rattle.moka_segment_model.specs.Segments.{SegmentedSettings, segment_of_place, place_of, share_settings, steps_in}
@@ -29,7 +29,7 @@ module _ {K V E : Type 0} (eq : K → K → Bool) (is_clone : V → V → Type 0
       (steps_in E eq settings calls (segment_of_place (place_of E eq settings calls call))) call result
 
   -- What a begin gives so, with a flag for whether it may wait.
-  abbrev pub GivesBegunIn : Bool → Result (Begun K V) Refused → Type 0
+  abbrev pub GivesBegunIn : Bool → Result (BegunOf K V) Refused → Type 0
   GivesBegunIn may_wait result =
       GivesBegun eq is_clone is_infallible (share_settings settings)
       (steps_in E eq settings calls (segment_of_place (place_of E eq settings calls call))) call may_wait result

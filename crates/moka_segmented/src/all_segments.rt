@@ -1,9 +1,10 @@
 //! The calls that go to all segments.
-ghost use Rattle.std.specs.Prelude.{◌≡◌, ◌↔◌, ℕ, true, min, length, slice_get, IsOk, IfErr, IfSome, OnOk, OnErr};
+ghost use Rattle.std.specs.Prelude.{◌≡◌, ◌↔◌, ℕ, true, false, None, min, length, slice_get, IsOk, IfErr, IfSome, OnOk, OnErr};
 ghost use Rattle.std.specs.Arc.{arc_value};
 ghost use Rattle.moka_model.specs.Calls.{InvalidateAll, InvalidateIf, RunPendingTasks, RunPendingTasksUpTo, EntryCount, WeightedSize, Counted, Left};
 ghost use Rattle.moka_model.specs.Numbers.{greatest_number};
 ghost use Rattle.moka_segment_model.specs.Segments.{sum_below};
+ghost use Rattle.moka_segmented.specs.Maintained.{AllLiveIn, WeighWithinShares, CountWithinShares, FewLeft, FewNoticed};
 ghost use Rattle.moka_segmented.specs.SegmentedData.{stored_at, weight_at, notices_queued};
 
 use crate::segment::Segmented;
@@ -22,7 +23,9 @@ impl<K: Hash + Drop, V: Clone, C: CacheTypes<K, V>, R: RowStore<K, V>> Segmented
     ///
     /// Visits every entry.
     pub fn invalidate_all(&mut self)
-        ensures { ⟦<C as SegmentedStateView<K, V>>⟧.follows_in self.old InvalidateAll self.new }
+        ensures stands { ⟦<C as SegmentedStateView<K, V>>⟧.follows_in
+            self.old InvalidateAll self.new }
+        ensures settings { self.new.settings ≡ self.old.settings }
     {
         for index in 0..self.segments.len() {
             self.segments[index].invalidate_all();
@@ -35,8 +38,18 @@ impl<K: Hash + Drop, V: Clone, C: CacheTypes<K, V>, R: RowStore<K, V>> Segmented
     ///
     /// That of a state's `run_pending_tasks`, in each segment.
     pub fn run_pending_tasks(&mut self, now: u64)
-        ensures { ⟦<C as SegmentedStateView<K, V>>⟧.follows_in
+        ensures stands { ⟦<C as SegmentedStateView<K, V>>⟧.follows_in
             self.old (RunPendingTasks now) self.new }
+
+        // Afterwards every stored entry is live, and the weight of each segment is within its share
+        // of the capacity. Without a weigher, so is the number of its entries.
+        ensures all_live { ⟦<C as SegmentedStateView<K, V>>⟧.at_each_list self.old
+            (λ settings calls. AllLiveIn K.eq settings calls now self.new) }
+        ensures within { ⟦<C as SegmentedStateView<K, V>>⟧.at_each_list self.old (λ settings _.
+            WeighWithinShares settings self.new) }
+        ensures count { ⟦<C as SegmentedStateView<K, V>>⟧.at_each_list self.old (λ settings _.
+            self.new.settings.behaviour.weigher ≡ None → CountWithinShares settings self.new) }
+        ensures settings { self.new.settings ≡ self.old.settings }
     {
         for index in 0..self.segments.len() {
             self.segments[index].run_pending_tasks(now);
@@ -54,6 +67,22 @@ impl<K: Hash + Drop, V: Clone, C: CacheTypes<K, V>, R: RowStore<K, V>> Segmented
             self.old (RunPendingTasksUpTo limit now) (Left result) }
         ensures stands { ⟦<C as SegmentedStateView<K, V>>⟧.follows_in
             self.old (RunPendingTasksUpTo limit now) self.new }
+
+        // In each segment at most `limit` entries are evicted, and at most as many notices queued.
+        ensures fewer { FewLeft limit self.old.segments self.new.segments }
+        ensures noticed { FewNoticed limit self.old.segments self.new.segments }
+
+        // If no segment has a part left to do, everything is as after a whole maintenance.
+        ensures whole { result ≡ false → ⟦<C as SegmentedStateView<K, V>>⟧.follows_in
+            self.old (RunPendingTasks now) self.new }
+        ensures all_live { result ≡ false → ⟦<C as SegmentedStateView<K, V>>⟧.at_each_list self.old
+            (λ settings calls. AllLiveIn K.eq settings calls now self.new) }
+        ensures within { result ≡ false → ⟦<C as SegmentedStateView<K, V>>⟧.at_each_list self.old
+            (λ settings _. WeighWithinShares settings self.new) }
+        ensures count { result ≡ false → ⟦<C as SegmentedStateView<K, V>>⟧.at_each_list self.old
+            (λ settings _. self.new.settings.behaviour.weigher ≡ None
+            → CountWithinShares settings self.new) }
+        ensures settings { self.new.settings ≡ self.old.settings }
     {
         let mut is_left = false;
         for index in 0..self.segments.len() {
@@ -97,6 +126,7 @@ impl<K: Hash + Drop, V: Clone, C: CacheTypes<K, V>, R: RowStore<K, V>> Segmented
 
     /// Returns the number of notices in all segments that were not taken. It is at most
     /// `usize::MAX`.
+    #[doc(hidden)]
     pub fn notice_count(&self) -> usize
         ensures { result ≡ min (notices_queued self.now.segments) greatest_number }
     {
@@ -129,6 +159,7 @@ impl<K: Hash + Drop, V: Clone, C: CacheTypes<K, V>, R: RowStore<K, V>> Segmented
         ensures cause { IfErr result
             (λ cause. cause ≡ PredicateError.InvalidationClosuresDisabled) }
         ensures refused { OnErr result (self.new ≡ self.old) }
+        ensures settings { self.new.settings ≡ self.old.settings }
     {
         self.check_closures_enabled()?;
         self.hide_in_all(&predicate);
@@ -156,6 +187,7 @@ impl<K: Hash + Drop, V: Clone, C: CacheTypes<K, V>, R: RowStore<K, V>> Segmented
         ensures cause { IfErr result
             (λ cause. cause ≡ PredicateError.InvalidationClosuresDisabled) }
         ensures refused { OnErr result (self.new ≡ self.old) }
+        ensures settings { self.new.settings ≡ self.old.settings }
     {
         self.check_closures_enabled()?;
         self.hide_in_all(&predicate);
@@ -181,8 +213,9 @@ impl<K: Hash + Drop, V: Clone, C: CacheTypes<K, V>, R: RowStore<K, V>> Segmented
         requires tests { C.Predicate.tests predicate.now (C.test predicate.now) }
         requires supported { (i : ℕ) → IfSome (slice_get self.old.segments i)
             (λ state. state.settings.supports_closures ≡ true) }
-        ensures { ⟦<C as SegmentedStateView<K, V>>⟧.follows_in
+        ensures stands { ⟦<C as SegmentedStateView<K, V>>⟧.follows_in
             self.old (InvalidateIf (C.test predicate.now)) self.new }
+        ensures settings { self.new.settings ≡ self.old.settings }
     {
         for index in 0..self.segments.len() {
             self.segments[index].hide_where(predicate);

@@ -1,6 +1,6 @@
 //! The begin of a turn and the loaders for a key by reference, each in the segment of the key.
 ghost use Rattle.std.specs.Prelude.{◌≡◌, ◌≢◌, Option, Result, true, IfOk, IfSome, OnErr};
-ghost use Rattle.moka_state.specs.Begin.{FoundKeeps, IsAsked, IsSaidOf};
+ghost use Rattle.moka_state.specs.Begin.{FoundKeeps, FoundKeepsFor, IsAsked, IsSaidOf};
 ghost use Rattle.moka_state.specs.Forms.{IsOptional, IsTried, IsValue, optional_outcome, tried_outcome};
 ghost use Rattle.moka_segmented.specs.Turns.{TakesLiveIn};
 ghost use Rattle.moka_segmented.specs.Ends.{LoaderBeginsByRefIn, LoadsIn};
@@ -47,6 +47,8 @@ impl<K: Hash + Clone + Drop, V: Clone, C: CacheTypes<K, V>, R: RowStore<K, V>> S
             self.new result }
         ensures refused { OnErr result (self.new ≡ self.old) }
         ensures kept { IfOk result (FoundKeeps C.keeps) }
+        ensures kept_for { IfOk result (FoundKeepsFor C.keeps key.now) }
+        ensures settings { self.new.settings ≡ self.old.settings }
     {
         let place = self.place_of(key);
         self.segments[place.index].begin_by_ref(key, kind, replace_if, now)
@@ -75,6 +77,7 @@ impl<K: Hash + Clone + Drop, V: Clone, C: CacheTypes<K, V>, R: RowStore<K, V>> S
             × LoadsIn ⟦<C as SegmentedCallView<K, V>>⟧.spec Outcome.Value (F.post init) IsValue
             asked Kind.With now self.old self.new result }
         ensures kept { IfOk result (C.keeps key.now) }
+        ensures settings { self.new.settings ≡ self.old.settings }
     {
         let place = self.place_of(key);
         self.segments[place.index].get_with_by_ref(key, init, now)
@@ -95,6 +98,7 @@ impl<K: Hash + Clone + Drop, V: Clone, C: CacheTypes<K, V>, R: RowStore<K, V>> S
             × LoadsIn ⟦<C as SegmentedCallView<K, V>>⟧.spec optional_outcome (F.post init)
             IsOptional asked Kind.Optionally now self.old self.new result }
         ensures kept { IfOk result (λ found. IfSome found (C.keeps key.now)) }
+        ensures settings { self.new.settings ≡ self.old.settings }
     {
         let place = self.place_of(key);
         self.segments[place.index].optionally_get_with_by_ref(key, init, now)
@@ -115,6 +119,7 @@ impl<K: Hash + Clone + Drop, V: Clone, C: CacheTypes<K, V>, R: RowStore<K, V>> S
             × LoadsIn ⟦<C as SegmentedCallView<K, V>>⟧.spec tried_outcome (F.post init) IsTried
             asked Kind.Try now self.old self.new result }
         ensures kept { IfOk result (λ tried. IfOk tried (C.keeps key.now)) }
+        ensures settings { self.new.settings ≡ self.old.settings }
     {
         let place = self.place_of(key);
         self.segments[place.index].try_get_with_by_ref(key, init, now)

@@ -1,5 +1,5 @@
 //! Loaders, each in the segment of its key: a begin, the closure and a finish at one moment.
-ghost use Rattle.std.specs.Prelude.{Option, Some, Result, IfOk, IfSome};
+ghost use Rattle.std.specs.Prelude.{◌≡◌, Option, Some, Result, IfOk, IfSome};
 ghost use Rattle.moka_state.specs.Begin.{IsSaidOf};
 ghost use Rattle.moka_state.specs.Forms.{IsOptional, IsTried, IsValue, optional_outcome, tried_outcome};
 ghost use Rattle.moka_segmented.specs.Turns.{TakesLiveIn};
@@ -44,9 +44,28 @@ impl<K: Hash + Drop, V: Clone, C: CacheTypes<K, V>, R: RowStore<K, V>> Segmented
         ensures form { LoadsIn ⟦<C as SegmentedCallView<K, V>>⟧.spec Outcome.Value (F.post init)
             IsValue key Kind.With now self.old self.new result }
         ensures kept { IfOk result (C.keeps key) }
+        ensures settings { self.new.settings ≡ self.old.settings }
     {
         let place = self.place_of(&key);
         self.segments[place.index].get_with(key, init, now)
+    }
+
+    /// Calls [`Segmented::get_with`], by its older name.
+    #[deprecated(note = "replaced by `get_with`")]
+    pub fn get_or_insert_with<F: FnOnce() -> V + Drop>(
+        &mut self,
+        key: K,
+        init: F,
+        now: u64,
+    ) -> Result<V, Refused>
+        requires asks { F.IsAlwaysCallable init }
+        requires keeps { (v : V) → F.post init v → C.keeps key v }
+        ensures form { LoadsIn ⟦<C as SegmentedCallView<K, V>>⟧.spec Outcome.Value (F.post init)
+            IsValue key Kind.With now self.old self.new result }
+        ensures kept { IfOk result (C.keeps key) }
+        ensures settings { self.new.settings ≡ self.old.settings }
+    {
+        self.get_with(key, init, now)
     }
 
     /// Does what [`Segmented::get_with`] does, but treats a live value as absent if `replace_if`
@@ -67,6 +86,7 @@ impl<K: Hash + Drop, V: Clone, C: CacheTypes<K, V>, R: RowStore<K, V>> Segmented
             (IsSaidOf P.FnMut (Some replace_if)) Outcome.Value (F.post init) IsValue key Kind.With
             now self.old self.new result }
         ensures kept { IfOk result (C.keeps key) }
+        ensures settings { self.new.settings ≡ self.old.settings }
     {
         let place = self.place_of(&key);
         self.segments[place.index].get_with_if(key, init, replace_if, now)
@@ -85,6 +105,7 @@ impl<K: Hash + Drop, V: Clone, C: CacheTypes<K, V>, R: RowStore<K, V>> Segmented
         ensures form { LoadsIn ⟦<C as SegmentedCallView<K, V>>⟧.spec optional_outcome (F.post init)
             IsOptional key Kind.Optionally now self.old self.new result }
         ensures kept { IfOk result (λ found. IfSome found (C.keeps key)) }
+        ensures settings { self.new.settings ≡ self.old.settings }
     {
         let place = self.place_of(&key);
         self.segments[place.index].optionally_get_with(key, init, now)
@@ -109,8 +130,31 @@ impl<K: Hash + Drop, V: Clone, C: CacheTypes<K, V>, R: RowStore<K, V>> Segmented
         ensures form { LoadsIn ⟦<C as SegmentedCallView<K, V>>⟧.spec tried_outcome (F.post init)
             IsTried key Kind.Try now self.old self.new result }
         ensures kept { IfOk result (λ tried. IfOk tried (C.keeps key)) }
+        ensures settings { self.new.settings ≡ self.old.settings }
     {
         let place = self.place_of(&key);
         self.segments[place.index].try_get_with(key, init, now)
+    }
+
+    /// Calls [`Segmented::try_get_with`], by its older name.
+    ///
+    /// # Errors
+    ///
+    /// As [`Segmented::try_get_with`].
+    #[deprecated(note = "replaced by `try_get_with`")]
+    pub fn get_or_try_insert_with<F: FnOnce() -> Result<V, C::Error> + Drop>(
+        &mut self,
+        key: K,
+        init: F,
+        now: u64,
+    ) -> Result<Result<V, Arc<C::Error>>, Refused>
+        requires asks { F.IsAlwaysCallable init }
+        requires keeps { (r : Result V C.Error) → F.post init r → IfOk r (C.keeps key) }
+        ensures form { LoadsIn ⟦<C as SegmentedCallView<K, V>>⟧.spec tried_outcome (F.post init)
+            IsTried key Kind.Try now self.old self.new result }
+        ensures kept { IfOk result (λ tried. IfOk tried (C.keeps key)) }
+        ensures settings { self.new.settings ≡ self.old.settings }
+    {
+        self.try_get_with(key, init, now)
     }
 }

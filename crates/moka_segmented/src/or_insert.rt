@@ -48,6 +48,7 @@ impl<K: Hash + Drop, V: Clone, C: CacheTypes<K, V>, R: RowStore<K, V>> Segmented
         ensures refused { OnErr result (self.new ≡ self.old) }
         ensures kept { IfOk result (EntryKeeps C.keeps (arc_value key.now)) }
         ensures value_back { IfErr result (λ refused. refused.value ≡ value) }
+        ensures settings { self.new.settings ≡ self.old.settings }
     {
         let place = self.place_of(&**key);
         self.segments[place.index].or_insert_with_hash(key, place.hash, value, now)
@@ -74,6 +75,7 @@ where
             self.old (OrInsert key value now) self.new) }
         ensures refused { OnErr result (self.new ≡ self.old) }
         ensures kept { IfOk result (EntryKeeps C.keeps key) }
+        ensures settings { self.new.settings ≡ self.old.settings }
     {
         let place = self.place_of(&key);
         self.segments[place.index].or_default_with_hash(key, place.hash, now)

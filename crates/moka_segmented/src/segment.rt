@@ -79,6 +79,7 @@ impl<K: Hash + Drop, V: Clone, C: CacheTypes<K, V>, R: RowStore<K, V>> Segmented
         ensures ends { ReadsLiveIn ⟦<C as SegmentedCallView<K, V>>⟧.spec Get key.now now self.old
             self.new result }
         ensures kept { IfOk result (λ found. IfSome found (C.keeps key.now)) }
+        ensures settings { self.new.settings ≡ self.old.settings }
     {
         let place = self.place_of(key);
         self.segments[place.index].get_with_hash(key, place.hash, now)
@@ -125,6 +126,7 @@ impl<K: Hash + Drop, V: Clone, C: CacheTypes<K, V>, R: RowStore<K, V>> Segmented
             (Insert key value now)) }
         ensures nothing { ⟦<C as SegmentedStateView<K, V>>⟧.at_each_list self.old (λ settings _.
             stores_nothing settings.whole.max_capacity ≡ true → IsOk result) }
+        ensures settings { self.new.settings ≡ self.old.settings }
     {
         let place = self.place_of(&key);
         self.segments[place.index].insert_with_hash(key, place.hash, value, now)
@@ -133,8 +135,9 @@ impl<K: Hash + Drop, V: Clone, C: CacheTypes<K, V>, R: RowStore<K, V>> Segmented
     /// Removes the entry of `key`, live or expired, from its segment. The value is noticed. Does
     /// not allocate.
     pub fn invalidate(&mut self, key: &K, now: u64)
-        ensures { ⟦<C as SegmentedStateView<K, V>>⟧.follows_in
+        ensures stands { ⟦<C as SegmentedStateView<K, V>>⟧.follows_in
             self.old (Invalidate key.now now) self.new }
+        ensures settings { self.new.settings ≡ self.old.settings }
     {
         let place = self.place_of(key);
         self.segments[place.index].invalidate_with_hash(key, place.hash, now);
@@ -151,6 +154,7 @@ impl<K: Hash + Drop, V: Clone, C: CacheTypes<K, V>, R: RowStore<K, V>> Segmented
         ensures ends { ReadsLiveIn ⟦<C as SegmentedCallView<K, V>>⟧.spec Remove key.now now self.old
             self.new result }
         ensures kept { IfOk result (λ found. IfSome found (C.keeps key.now)) }
+        ensures settings { self.new.settings ≡ self.old.settings }
     {
         let place = self.place_of(key);
         self.segments[place.index].remove_with_hash(key, place.hash, now)
@@ -168,6 +172,7 @@ impl<K: Hash + Drop, V: Clone, C: CacheTypes<K, V>, R: RowStore<K, V>> Segmented
         ensures none { IsNone result ↔ (notices_queued self.old.segments ≡ 0) }
         ensures fewer { IfSome result (λ _.
             notices_queued self.old.segments ≡ notices_queued self.new.segments + 1) }
+        ensures settings { self.new.settings ≡ self.old.settings }
     {
         match self.first_with_notice() {
             Some(index) => self.segments[index].take_notice(),

@@ -12,7 +12,8 @@ pub trait SegmentedStateView<K: Hash, V: Clone>: CacheTypes<K, V> {
     ghost use Rattle.moka_segmented.specs.SegmentedData.{SegmentedData};
 
     /// What the cache was built with, in the specification's terms.
-    ghost segmented_settings: { SegmentedData K V Self.Hasher Self.Weigher Self.Expiry Self.Frequency Self.Error
+    ghost segmented_settings: { SegmentedData K V Self.Hasher Self.Weigher Self.Expiry
+        Self.Frequency Self.Error
         → SegmentedSettings K V };
 
     /// The cache could have come from these calls under these settings. Each segment has its own
@@ -23,20 +24,23 @@ pub trait SegmentedStateView<K: Hash, V: Clone>: CacheTypes<K, V> {
         → Type 0 };
 
     /// This holds for all settings and calls that the cache could have come from.
-    ghost at_each_list: { SegmentedData K V Self.Hasher Self.Weigher Self.Expiry Self.Frequency Self.Error
+    ghost at_each_list: { SegmentedData K V Self.Hasher Self.Weigher Self.Expiry Self.Frequency
+        Self.Error
         → (SegmentedSettings K V → List (Call K V Self.Error) → Type 0)
         → Type 0 };
 
     /// Whatever calls the first cache could have come from, the second one could have come from
     /// those followed by this one.
-    ghost follows_in: { SegmentedData K V Self.Hasher Self.Weigher Self.Expiry Self.Frequency Self.Error
+    ghost follows_in: { SegmentedData K V Self.Hasher Self.Weigher Self.Expiry Self.Frequency
+        Self.Error
         → Call K V Self.Error
         → SegmentedData K V Self.Hasher Self.Weigher Self.Expiry Self.Frequency Self.Error
         → Type 0 };
 
     /// Whatever calls the cache could have come from, this is what the call returns after them, up
     /// to cloning.
-    ghost replies_in: { SegmentedData K V Self.Hasher Self.Weigher Self.Expiry Self.Frequency Self.Error
+    ghost replies_in: { SegmentedData K V Self.Hasher Self.Weigher Self.Expiry Self.Frequency
+        Self.Error
         → Call K V Self.Error
         → Reply K V Self.Error
         → Type 0 };

@@ -5,6 +5,7 @@ ghost use Rattle.moka_model.specs.Numbers.{flush_point};
 ghost use Rattle.moka_state.specs.State.{all_writes};
 ghost use Rattle.moka_state.specs.Step.{call_of, StepKeeps, ReplyKeeps};
 ghost use Rattle.moka_segment_model.specs.Segments.{key_in, share, segments_of};
+ghost use Rattle.moka_segmented.specs.Conserved.{IsConservedIn};
 ghost use Rattle.moka_segmented.specs.Step.{IsReplyIn, after_reply_in, IsRunIn, after_all_in};
 
 use crate::segment::Segmented;
@@ -30,6 +31,7 @@ impl<K: Hash + Drop, V: Clone, C: CacheTypes<K, V>, R: RowStore<K, V>> Segmented
             ⟦<C as SegmentedStateView<K, V>>⟧.all_stand_for settings self.new
             (after_reply_in (call_of C.test step) result calls)) }
         ensures kept { ReplyKeeps C.keeps step result }
+        ensures settings { self.new.settings ≡ self.old.settings }
     {
         let place = match key_of(&step) {
             Some(key) => self.place_of(key),
@@ -49,6 +51,7 @@ impl<K: Hash + Drop, V: Clone, C: CacheTypes<K, V>, R: RowStore<K, V>> Segmented
             ⟦<C as SegmentedStateView<K, V>>⟧.all_stand_for settings self.new
             (after_reply_in (call_of C.test step) result calls)) }
         ensures kept { ReplyKeeps C.keeps step result }
+        ensures settings { self.new.settings ≡ self.old.settings }
     {
         match step {
             Step::InvalidateAll => {
@@ -105,6 +108,14 @@ impl<K: Hash + Drop, V: Clone, C: CacheTypes<K, V>, R: RowStore<K, V>> Segmented
             ⟦<C as SegmentedStateView<K, V>>⟧.at_each_list self.old (λ settings before.
             ⟦<C as SegmentedStateView<K, V>>⟧.all_stand_for settings self.new
             (after_all_in C.test steps.items replies.items before))) }
+
+        // Nothing is lost or doubled in any segment: each pair that was written there is stored
+        // there, or its notice is queued there, or the segment gave it out, before the run or in
+        // the replies.
+        ensures conserved { IfOk result (λ replies.
+            ⟦<C as SegmentedStateView<K, V>>⟧.at_each_list self.old (λ settings before.
+            IsConservedIn K.eq C.test settings before steps.items replies.items
+            self.new.segments)) }
         ensures bounded { IfOk result (λ _. ⟦<C as SegmentedStateView<K, V>>⟧.at_each_list self.old
             (λ settings _. self.new.settings.behaviour.weigher ≡ None → IfSome
             self.new.settings.max_capacity (λ capacity. AllByRecursion (λ state. length
@@ -112,6 +123,7 @@ impl<K: Hash + Drop, V: Clone, C: CacheTypes<K, V>, R: RowStore<K, V>> Segmented
             self.new.segments))) }
         ensures refused { OnErr result (self.new ≡ self.old) }
         ensures cause { IfErr result (λ cause. cause ≡ Refused.OutOfMemory) }
+        ensures settings { self.new.settings ≡ self.old.settings }
     {
         let Ok(mut replies) = Vec::with_capacity(self.alloc(), steps.len()) else {
             return Err(Refused::OutOfMemory);

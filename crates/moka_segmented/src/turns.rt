@@ -4,8 +4,8 @@ ghost use Rattle.std.specs.Prelude.{◌≡◌, ◌≢◌, Option, true, IfOk, If
 ghost use Rattle.std.specs.Arc.{arc_value};
 ghost use Rattle.moka_model.specs.Calls.{Abandon, BeginCompute, Collect, Finish, Leave};
 ghost use Rattle.moka_turns.specs.Handles.{turn_name, ticket_name};
-ghost use Rattle.moka_state.specs.Begin.{FoundKeeps, IsNamed, IsSaidOf};
-ghost use Rattle.moka_state.specs.Compute.{IsCompute, ShownKeeps};
+ghost use Rattle.moka_state.specs.Begin.{FoundKeeps, FoundKeepsFor, IsNamed, IsSaidOf};
+ghost use Rattle.moka_state.specs.Compute.{IsCompute, ShownKeeps, ShownKeepsFor};
 ghost use Rattle.moka_state.specs.Finish.{Fits, IsFinished, OutcomeKeeps, outcome_of};
 ghost use Rattle.moka_state.specs.Given.{IfUnspent, of_begin_compute, of_collect, of_done, of_finish};
 ghost use Rattle.moka_segmented.specs.Turns.{TakesLiveIn};
@@ -58,6 +58,8 @@ impl<K: Hash + Drop, V: Clone, C: CacheTypes<K, V>, R: RowStore<K, V>> Segmented
         ensures refused { OnErr result (self.new ≡ self.old) }
         ensures named { IfOk result (IsNamed kind (arc_value key.now)) }
         ensures kept { IfOk result (FoundKeeps C.keeps) }
+        ensures kept_for { IfOk result (FoundKeepsFor C.keeps (arc_value key.now)) }
+        ensures settings { self.new.settings ≡ self.old.settings }
     {
         let place = self.place_of(&**key);
         self.segments[place.index].begin(key, kind, replace_if, now)
@@ -92,6 +94,8 @@ impl<K: Hash + Drop, V: Clone, C: CacheTypes<K, V>, R: RowStore<K, V>> Segmented
         ensures refused { OnErr result (self.new ≡ self.old) }
         ensures named { IfOk result (IsCompute (arc_value key.now)) }
         ensures kept { IfOk result (ShownKeeps C.keeps) }
+        ensures kept_for { IfOk result (ShownKeepsFor C.keeps (arc_value key.now)) }
+        ensures settings { self.new.settings ≡ self.old.settings }
     {
         let place = self.place_of(&**key);
         self.segments[place.index].begin_compute(key, keep, now)
@@ -134,6 +138,7 @@ impl<K: Hash + Drop, V: Clone, C: CacheTypes<K, V>, R: RowStore<K, V>> Segmented
         ensures refused { OnErr result (self.new ≡ self.old) }
         ensures turn_back { IfErr result (λ refused. turn_name refused.turn ≡ turn_name turn) }
         ensures outcome_back { IfErr result (λ refused. refused.outcome ≡ outcome) }
+        ensures settings { self.new.settings ≡ self.old.settings }
     {
         let place = self.place_of(turn.key());
         self.segments[place.index].finish(turn, outcome, now)
@@ -156,6 +161,7 @@ impl<K: Hash + Drop, V: Clone, C: CacheTypes<K, V>, R: RowStore<K, V>> Segmented
             (Abandon (turn_name turn)) self.new) }
         ensures refused { OnErr result (self.new ≡ self.old) }
         ensures cause { IfErr result (λ cause. cause ≡ Refused.UnknownTurn) }
+        ensures settings { self.new.settings ≡ self.old.settings }
     {
         let place = self.place_of(turn.key());
         self.segments[place.index].abandon(turn)
@@ -189,6 +195,7 @@ impl<K: Hash + Drop, V: Clone, C: CacheTypes<K, V>, R: RowStore<K, V>> Segmented
         ensures refused { OnErr result (self.new ≡ self.old) }
         ensures handed_back { IfErr result (λ refused.
             ticket_name refused.ticket ≡ ticket_name ticket) }
+        ensures settings { self.new.settings ≡ self.old.settings }
     {
         let place = self.place_of(ticket.key());
         self.segments[place.index].collect(ticket)
@@ -211,6 +218,7 @@ impl<K: Hash + Drop, V: Clone, C: CacheTypes<K, V>, R: RowStore<K, V>> Segmented
             (Leave (ticket_name ticket)) self.new) }
         ensures refused { OnErr result (self.new ≡ self.old) }
         ensures cause { IfErr result (λ cause. cause ≡ Refused.UnknownTicket) }
+        ensures settings { self.new.settings ≡ self.old.settings }
     {
         let place = self.place_of(ticket.key());
         self.segments[place.index].leave(ticket)

@@ -14,12 +14,12 @@ use std::test::Fail;
 /// The types of the cache. Initializers may fail with a number.
 type Types = ReadyTypes<Hasher, NoWeigher, NoExpiry, ManualClock, NoPredicate, u64>;
 
-type Numbers = SegmentedState<u64, u64, Types>;
+pub(crate) type Numbers = SegmentedState<u64, u64, Types>;
 
 type One = CacheState<u64, u64, Types>;
 
 /// Builds a cache of four segments, with room for ten entries in each.
-fn open_cache(alloc: Global) -> Result<Numbers, Fail> {
+pub(crate) fn open_cache(alloc: Global) -> Result<Numbers, Fail> {
     Ok(
         CacheBuilder::new(40)
             .eviction_policy(EvictionPolicy::lru())
@@ -38,7 +38,7 @@ fn open_one(alloc: Global) -> Result<One, Fail> {
 }
 
 /// A key of each of four segments.
-const KEYS: [u64; 4] = [1, 1 << 62, UPPER, u64::MAX];
+pub(crate) const KEYS: [u64; 4] = [1, 1 << 62, UPPER, u64::MAX];
 
 // A call of a cache is slow to prove wherever it is made: so each is made once, in one of these.
 
@@ -87,14 +87,14 @@ fn call_optionally_get_with_by_ref(
 }
 
 /// Checks that only the segment at `index` has this key.
-fn stands_in(rt: &impl Abort, cache: &Numbers, key: u64, index: usize) {
+pub(crate) fn stands_in(rt: &impl Abort, cache: &Numbers, key: u64, index: usize) {
     for (place, segment) in segments(cache).iter().enumerate() {
         assert_eq!(rt; has(segment, key), place == index);
     }
 }
 
 /// Checks that no segment has this key.
-fn stands_nowhere(rt: &impl Abort, cache: &Numbers, key: u64) {
+pub(crate) fn stands_nowhere(rt: &impl Abort, cache: &Numbers, key: u64) {
     stands_in(rt, cache, key, segments(cache).len());
 }
 

@@ -8,6 +8,8 @@ mod calls;
 #[cfg(test)]
 mod forms;
 #[cfg(test)]
+mod older_names;
+#[cfg(test)]
 mod refusals;
 #[cfg(test)]
 mod runs;

@@ -22,9 +22,11 @@ fn add(steps: &mut Steps, step: OneStep) -> Result<(), AllocError>
     requires one { StepKeeps ⟦<Types as CacheTypes<u64, String>>⟧.keeps
         ⟦<Odd as Predicate<u64, String>>⟧.tests ⟦<Types as CacheTypes<u64, String>>⟧.test step }
     requires all { All (StepKeeps ⟦<Types as CacheTypes<u64, String>>⟧.keeps
-        ⟦<Odd as Predicate<u64, String>>⟧.tests ⟦<Types as CacheTypes<u64, String>>⟧.test) steps.old.items }
+        ⟦<Odd as Predicate<u64, String>>⟧.tests ⟦<Types as CacheTypes<u64, String>>⟧.test)
+        steps.old.items }
     ensures { OnOk result (All (StepKeeps ⟦<Types as CacheTypes<u64, String>>⟧.keeps
-        ⟦<Odd as Predicate<u64, String>>⟧.tests ⟦<Types as CacheTypes<u64, String>>⟧.test) steps.new.items) }
+        ⟦<Odd as Predicate<u64, String>>⟧.tests ⟦<Types as CacheTypes<u64, String>>⟧.test)
+        steps.new.items) }
 {
     Ok(steps.push(step)?)
 }
@@ -32,9 +34,11 @@ fn add(steps: &mut Steps, step: OneStep) -> Result<(), AllocError>
 // The steps of `all_steps` in five parts, since a body that owns them all is slow to prove.
 fn add_writes(alloc: Global, steps: &mut Steps) -> Result<(), AllocError>
     requires { All (StepKeeps ⟦<Types as CacheTypes<u64, String>>⟧.keeps
-        ⟦<Odd as Predicate<u64, String>>⟧.tests ⟦<Types as CacheTypes<u64, String>>⟧.test) steps.old.items }
+        ⟦<Odd as Predicate<u64, String>>⟧.tests ⟦<Types as CacheTypes<u64, String>>⟧.test)
+        steps.old.items }
     ensures { OnOk result (All (StepKeeps ⟦<Types as CacheTypes<u64, String>>⟧.keeps
-        ⟦<Odd as Predicate<u64, String>>⟧.tests ⟦<Types as CacheTypes<u64, String>>⟧.test) steps.new.items) }
+        ⟦<Odd as Predicate<u64, String>>⟧.tests ⟦<Types as CacheTypes<u64, String>>⟧.test)
+        steps.new.items) }
 {
     add(steps, write(alloc, 1, "a")?)?;
     add(steps, write(alloc, UPPER, "b")?)
@@ -53,9 +57,11 @@ fn write(alloc: Global, key: u64, value: &str) -> Result<OneStep, AllocError>
 
 fn add_looks(alloc: Global, steps: &mut Steps) -> Result<(), AllocError>
     requires { All (StepKeeps ⟦<Types as CacheTypes<u64, String>>⟧.keeps
-        ⟦<Odd as Predicate<u64, String>>⟧.tests ⟦<Types as CacheTypes<u64, String>>⟧.test) steps.old.items }
+        ⟦<Odd as Predicate<u64, String>>⟧.tests ⟦<Types as CacheTypes<u64, String>>⟧.test)
+        steps.old.items }
     ensures { OnOk result (All (StepKeeps ⟦<Types as CacheTypes<u64, String>>⟧.keeps
-        ⟦<Odd as Predicate<u64, String>>⟧.tests ⟦<Types as CacheTypes<u64, String>>⟧.test) steps.new.items) }
+        ⟦<Odd as Predicate<u64, String>>⟧.tests ⟦<Types as CacheTypes<u64, String>>⟧.test)
+        steps.new.items) }
 {
     let key = Arc::new(alloc, 1)?;
     add(
@@ -77,9 +83,11 @@ fn add_looks(alloc: Global, steps: &mut Steps) -> Result<(), AllocError>
 
 fn add_counts(steps: &mut Steps) -> Result<(), AllocError>
     requires { All (StepKeeps ⟦<Types as CacheTypes<u64, String>>⟧.keeps
-        ⟦<Odd as Predicate<u64, String>>⟧.tests ⟦<Types as CacheTypes<u64, String>>⟧.test) steps.old.items }
+        ⟦<Odd as Predicate<u64, String>>⟧.tests ⟦<Types as CacheTypes<u64, String>>⟧.test)
+        steps.old.items }
     ensures { OnOk result (All (StepKeeps ⟦<Types as CacheTypes<u64, String>>⟧.keeps
-        ⟦<Odd as Predicate<u64, String>>⟧.tests ⟦<Types as CacheTypes<u64, String>>⟧.test) steps.new.items) }
+        ⟦<Odd as Predicate<u64, String>>⟧.tests ⟦<Types as CacheTypes<u64, String>>⟧.test)
+        steps.new.items) }
 {
     add(steps, Step::EntryCount)?;
     add(steps, Step::WeightedSize)?;
@@ -90,9 +98,11 @@ fn add_counts(steps: &mut Steps) -> Result<(), AllocError>
 
 fn add_removals(alloc: Global, steps: &mut Steps) -> Result<(), AllocError>
     requires { All (StepKeeps ⟦<Types as CacheTypes<u64, String>>⟧.keeps
-        ⟦<Odd as Predicate<u64, String>>⟧.tests ⟦<Types as CacheTypes<u64, String>>⟧.test) steps.old.items }
+        ⟦<Odd as Predicate<u64, String>>⟧.tests ⟦<Types as CacheTypes<u64, String>>⟧.test)
+        steps.old.items }
     ensures { OnOk result (All (StepKeeps ⟦<Types as CacheTypes<u64, String>>⟧.keeps
-        ⟦<Odd as Predicate<u64, String>>⟧.tests ⟦<Types as CacheTypes<u64, String>>⟧.test) steps.new.items) }
+        ⟦<Odd as Predicate<u64, String>>⟧.tests ⟦<Types as CacheTypes<u64, String>>⟧.test)
+        steps.new.items) }
 {
     let key = Arc::new(alloc, UPPER)?;
     add(steps, Step::Remove { key, now: 0 })?;
@@ -104,9 +114,11 @@ fn add_removals(alloc: Global, steps: &mut Steps) -> Result<(), AllocError>
 
 fn add_removals_of_all(alloc: Global, steps: &mut Steps) -> Result<(), AllocError>
     requires { All (StepKeeps ⟦<Types as CacheTypes<u64, String>>⟧.keeps
-        ⟦<Odd as Predicate<u64, String>>⟧.tests ⟦<Types as CacheTypes<u64, String>>⟧.test) steps.old.items }
+        ⟦<Odd as Predicate<u64, String>>⟧.tests ⟦<Types as CacheTypes<u64, String>>⟧.test)
+        steps.old.items }
     ensures { OnOk result (All (StepKeeps ⟦<Types as CacheTypes<u64, String>>⟧.keeps
-        ⟦<Odd as Predicate<u64, String>>⟧.tests ⟦<Types as CacheTypes<u64, String>>⟧.test) steps.new.items) }
+        ⟦<Odd as Predicate<u64, String>>⟧.tests ⟦<Types as CacheTypes<u64, String>>⟧.test)
+        steps.new.items) }
 {
     let predicate = Arc::new(alloc, Odd)?;
     add(steps, Step::InvalidateIf { predicate })?;

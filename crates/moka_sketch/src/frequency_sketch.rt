@@ -46,7 +46,8 @@ impl<const BITS: u32> Model for FrequencySketch<BITS> {
 
     ghost view = { λ sketch. record { counters = sketch.counters.items; notes = sketch.notes } };
 
-    ghost invariant = { λ sketch. IsSketch BITS (record { counters = sketch.counters.items; notes = sketch.notes }) };
+    ghost invariant = { λ sketch. IsSketch BITS
+        (record { counters = sketch.counters.items; notes = sketch.notes }) };
 }
 
 impl<const BITS: u32> FrequencySource for FrequencySketch<BITS> {

@@ -1,5 +1,5 @@
 -- The begin of a loader by the specification, and what its events make of a state's view, beside a hit or a miss.
-use Rattle.std.proofs.Common.{◌≡◌, ◌≢◌, ℕ, zero, suc, ◌+◌, ◌<◌, ◌^◌, ◌==◌, max, not, ◌&&◌, Bool, true, false, cond, Option, Some, None, IfSome, List, [], ◌∷◌, ◌++◌, refl, sym, ap, ◌∙◌, subst, inl, inr, ◌⊎◌, arith, is_none, option_map}
+use Rattle.std.proofs.Common.{◌≡◌, ◌≢◌, ℕ, ◌+◌, ◌<◌, ◌^◌, ◌==◌, max, not, ◌&&◌, Bool, true, false, cond, Option, Some, None, IfSome, List, [], ◌∷◌, ◌++◌, refl, sym, ap, ◌∙◌, subst, inl, inr, arith, is_none}
 use Rattle.std.specs.Prelude.{Result, Ok, Err}
 use Rattle.std.specs.Arc.{arc_value}
 use Rattle.std.specs.Cmp.{IsEquivalence}
@@ -11,22 +11,20 @@ use Rattle.std.proofs.lemmas.List.Elements.{filter_agree}
 use denote.Ref.{Bor}
 use Rattle.moka_model.specs.declared.turns.Kind.{Kind}
 use Rattle.moka_model.specs.declared.turns.Kind.TheVariants.{With, Optionally, Try, Compute}
-use Rattle.moka_model.specs.Lives.{Settings, Write, has_come, is_live, live_one}
+use Rattle.moka_model.specs.Lives.{Settings, Write, is_live, live_one}
 use Rattle.moka_model.specs.Events.{Event, Looked, TurnedDown, Drawn}
 use Rattle.moka_model.specs.Numbers.{drawn_in, next_number, greatest_number}
-use Rattle.moka_model.specs.OrderLaws.{HasOneEach}
 use Rattle.moka_model.specs.Turns.{Turn, Name, Move, Opened, Waited, moved, AreApart, IsIn, found, is_open_for, same_kind}
 use Rattle.moka_model.specs.Steps.{AcceptedStep, events_in, turns}
 use Rattle.moka_model.specs.Calls.{Call, Accepted, Reply, Begin, Entered, Run, Wait, begun, begun_by, acceptable, look_event, live_at, accepted, after, with_step, entry_of, IfReplied, IsWait, Holds}
-use Rattle.moka_model.specs.StandsFor.{Books, View, StandsFor}
-use Rattle.moka_model.proofs.Callers.{IsViewOf, whole, view-of, stands-moved, numbered-alone, found-is, same_kind-is}
+use Rattle.moka_model.specs.StandsFor.{View, StandsFor}
+use Rattle.moka_model.proofs.Callers.{IsViewOf, whole, stands-moved, numbered-alone, found-is, same_kind-is}
 use Rattle.moka_policy.specs.declared.policy.Refused.{Refused}
 use Rattle.moka_policy.specs.declared.policy.Refused.TheVariants as causes
 use Rattle.moka_rows.specs.declared.rows.Row.{Row}
-use Rattle.moka_rows.specs.Rows.{row_under, touched}
+use Rattle.moka_rows.specs.Rows.{row_under}
 use Rattle.moka_turns.proofs.Searches.{found-one}
 use Rattle.moka_turns.specs.declared.turn_key.TurnKey.{TurnKey}
-use Rattle.moka_turns.specs.declared.begin.TurnBegun.{TurnBegun}
 use Rattle.moka_turns.specs.declared.begin.TurnBegun.TheVariants as begun_turns
 use Rattle.moka_turns.specs.declared.handles.Turn as handle
 use Rattle.moka_turns.specs.declared.handles.Ticket.{Ticket}
@@ -36,23 +34,18 @@ use Rattle.moka_turns.specs.declared.table.OpenTurn.{OpenTurn}
 use Rattle.moka_turns.specs.declared.table.EndedTurn.{EndedTurn}
 use Rattle.moka_turns.specs.Represents.{Represents, name_of}
 use Rattle.moka_expiration.specs.declared.expiration_policy.ExpirationPolicy.{ExpirationPolicy}
-use Rattle.moka_expiration.specs.ExpirationPolicy.{IsDated, AreDated, deadline_of}
-use Rattle.moka_expiration.proofs.Callers.{alive-kept}
-use Rattle.moka_table.specs.LiveEntry.{IsSaid, is_yes, Accepts, IsEntryOfRow}
-use Rattle.moka_table.specs.WriteSlot.{is_live_row}
+use Rattle.moka_expiration.specs.ExpirationPolicy.{AreDated}
+use Rattle.moka_table.specs.LiveEntry.{is_yes, Accepts}
 use Rattle.moka_table.specs.Table.{Contents, entries, stored_write}
-use Rattle.moka_table.proofs.Callers.{of-row}
-use Rattle.moka_state.specs.declared.answers.Begun.{Begun}
+use Rattle.moka_state.specs.BegunOf.{BegunOf}
 use Rattle.moka_state.specs.Begin.{IsSaidOf, GivesBegun}
 use Rattle.moka_state.specs.Given.{Gives}
-use Rattle.moka_state.specs.State.{stored_orders}
 use Rattle.moka_housekeeper.specs.Hit.{UsesAt}
-use Rattle.moka_state.proofs.Becoming.{HasNoted, stored-same, becomes-missed, becomes-hit}
-use Rattle.moka_state.proofs.Finds.{live-row, live-absent}
-use Rattle.moka_state.proofs.Held.{same-key}
+use Rattle.moka_state.proofs.Becoming.{HasNoted, becomes-missed}
+use Rattle.moka_state.proofs.Finds.{found-live, found-hit, found-none}
 use Rattle.moka_state.proofs.Maintained.{HasLives}
 use Rattle.moka_state.proofs.Turns.{gives-accepted}
-use Rattle.moka_state.proofs.Views.{view_with, Becomes, view-becomes, one-each, live-held}
+use Rattle.moka_state.proofs.Views.{view_with, Becomes, one-each, live-held}
 
 module _ {K V : Type 0} (eq : K → K → Bool) (settings : Settings K V) (contents : Contents K V) (frequency : List ℕ → ℕ → ℕ) (latest number : ℕ) where
   -- a lookup of a live value that the caller turns down
@@ -114,17 +107,11 @@ module _ {K V E F : Type 0} (eq : K → K → Bool) {is_clone : V → V → Type
   abbrev live_here : Option (Write K V)
   live_here = live_at eq given k at (events_in steps)
 
-  alive-is : (n : ℕ) (row : Row K V) → row_under n (entries contents) ≡ Some row → (alive : Bool) → is_live_row (max latest at) (Some row) ≡ alive → (not row.info.is_hidden && not (has_come (deadline_of lives row.info) (max latest at))) ≡ alive
-  alive-is n row there alive live = alive-kept lives row.info (of-row (λ (r : Row K V). IsDated lives r.info) n (entries contents) row dated there) (max latest at) is_moment ∙ live
-
-  live-is : (n : ℕ) (row : Row K V) → row_under n (entries contents) ≡ Some row → eq (arc_value row.key) k ≡ true → (alive : Bool) → is_live_row (max latest at) (Some row) ≡ alive → live_here ≡ cond alive (Some (stored_write row)) None
-  live-is n row there same alive live = live-row eq laws settings contents frequency latest number given steps stands lives expired_alike k at n row there same alive (alive-is n row there alive live)
-
   -- a row that is accepted stores the live value, which is acceptable
   pub accepts-live : (n : ℕ) → Accepts eq call replace_if k hash (max latest at) (entries contents) said (Some n)
       → (row : Row K V) × (row_under n (entries contents) ≡ Some row) × IsSaidOf call replace_if live_here said × (acceptable said live_here ≡ Some (stored_write row)) × (is_yes said ≡ false)
   accepts-live n (row, there, of_key, live, says, declines) =
-      let here = live-is n row there (same-key eq k hash row of_key) true live in
+      let here = found-live eq laws settings contents frequency latest number given steps stands lives expired_alike dated hash_of respects hashed k at hash is is_moment n (row, there, of_key, live) in
       (row, there, rw here says, rw here (accepted-said said (stored_write row) declines), declines)
 
   -- A use of that row is the recorded lookup.
@@ -132,30 +119,23 @@ module _ {K V E F : Type 0} (eq : K → K → Bool) {is_clone : V → V → Type
       → new.notices ≡ contents.notices → (noted : List ℕ → ℕ → ℕ) → HasNoted eq settings contents frequency latest number k noted
       → Becomes eq (view_with settings contents frequency latest number) (look_event said k at) (view_with settings new noted (max latest at) number)
   hits-live n new (row, there, of_key, live, says, declines) uses notices noted notes =
-      let same = same-key eq k hash row of_key in
-      let one = one-each eq laws given (view_with settings contents frequency latest number) steps stands in
-      let used = rw there at uses in
-      let touch_is = used.1 in
-      let live_then : is_live settings (stored_write row) (max latest at) ≡ true =
-      ap (λ (expired : Row K V → ℕ → Bool). not row.info.is_hidden && not (expired row (max latest at))) expired_alike ∙ alive-is n row there true live in
       rw (looked-said {V = V} said k at declines)
-      (becomes-hit eq settings contents frequency latest number one new k at n row there same noted used.0 notes live_then
-      (stored-same _ (touched used.0 row) refl refl refl refl refl (sym touch_is.accessed) (sym touch_is.own) refl) used.2 notices)
+      (found-hit eq laws settings contents frequency latest number given steps stands lives expired_alike dated hash_of respects hashed k at hash is is_moment n new (row, there, of_key, live) uses notices noted notes)
 
   -- where none is accepted, none is acceptable
   pub rejects-live : Accepts eq call replace_if k hash (max latest at) (entries contents) said None → IsSaidOf call replace_if live_here said × (acceptable said live_here ≡ None)
   rejects-live (inl (nothing, none)) =
-      let here = live-absent eq laws settings contents frequency latest number given steps stands hash_of respects hashed k at hash is none in (
+      let here = found-none eq laws settings contents frequency latest number given steps stands lives expired_alike dated hash_of respects hashed k at hash is is_moment (inl none) in (
         rw here nothing,
         rw here (none-acceptable said),
       )
   rejects-live (inr (n, row, there, of_key, inl (dead, nothing))) =
-      let here = live-is n row there (same-key eq k hash row of_key) false dead in (
+      let here = found-none eq laws settings contents frequency latest number given steps stands lives expired_alike dated hash_of respects hashed k at hash is is_moment (inr (n, row, there, of_key, dead)) in (
         rw here nothing,
         rw here (none-acceptable said),
       )
   rejects-live (inr (n, row, there, of_key, inr (live, says, asks))) =
-      let here = live-is n row there (same-key eq k hash row of_key) true live in
+      let here = found-live eq laws settings contents frequency latest number given steps stands lives expired_alike dated hash_of respects hashed k at hash is is_moment n (row, there, of_key, live) in
       let told = said-yes said asks in
       (rw here says, rw (here, told) refl)
 
@@ -204,7 +184,7 @@ module _ {K V E : Type 0} (eq : K → K → Bool) (is_clone : V → V → Type 0
   abbrev opened_here : Option (Turn K V E)
   opened_here = found (is_open_for eq kind k) (turns steps)
 
-  abbrev GivesHere : Bool → Result (Begun K V) Refused → Type 0
+  abbrev GivesHere : Bool → Result (BegunOf K V) Refused → Type 0
   GivesHere = GivesBegun eq is_clone is_infallible settings steps (Begin k kind said at)
 
   accepted-is : (o : Option (Write K V)) → acceptable said (live_at eq settings k at h) ≡ o → (t : Option (Turn K V E)) → opened_here ≡ t → accepted eq settings steps (Begin k kind said at) ≡ Some (begun eq settings h k kind said at o t)

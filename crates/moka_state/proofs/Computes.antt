@@ -1,55 +1,36 @@
 -- The begin of a compute by the specification, and the results of its end.
-use Rattle.std.proofs.Common.{◌≡◌, ◌≢◌, ℕ, ◌<◌, ◌^◌, ◌==◌, max, not, ◌&&◌, Bool, true, false, cond, is_some, is_none, option_map, Option, Some, None, IfSome, List, [], ◌∷◌, ◌++◌, refl, sym, ap, ◌∙◌, subst, inl, inr, ◌⊎◌, arith}
+use Rattle.std.proofs.Common.{◌≡◌, ◌≢◌, ℕ, ◌==◌, not, ◌&&◌, Bool, true, false, cond, is_some, is_none, option_map, Option, Some, None, List, [], ◌∷◌, refl, sym, ap, ◌∙◌, subst, arith}
 use Rattle.std.specs.Prelude.{Result, Ok, Err, IsSomeAnd}
 use Rattle.std.specs.Arc.{arc_value}
-use Rattle.std.specs.Cmp.{IsEquivalence}
-use Rattle.std.specs.List.{AllByRecursion}
 use Rattle.std.proofs.lemmas.Bool.{and_parts}
 use Rattle.moka_model.specs.declared.turns.Kind.{Kind}
 use Rattle.moka_model.specs.declared.turns.Kind.TheVariants.{Compute}
 use Rattle.moka_model.specs.declared.turns.Op.TheVariants as ops
 use Rattle.moka_model.specs.declared.comp_result.CompResult.{CompResult}
 use Rattle.moka_model.specs.declared.comp_result.CompResult.TheVariants as results
-use Rattle.moka_model.specs.Lives.{Settings, Write, has_come, is_live}
+use Rattle.moka_model.specs.Lives.{Settings, Write}
 use Rattle.moka_model.specs.Events.{Event, Looked, Passed, Drawn}
 use Rattle.moka_model.specs.Numbers.{next_number, greatest_number}
 use Rattle.moka_model.specs.Turns.{Turn, Name, Opened, Waited, AreApart, found, is_open_for, same_kind}
 use Rattle.moka_model.specs.Steps.{AcceptedStep, events_in, turns}
-use Rattle.moka_model.specs.Calls.{Call, Accepted, Reply, BeginCompute, Run, Wait, StillNone, begun_compute, new_name, live_at, accepted, after, with_step, entry_of, entry_under, fresh_entry, put_by, removed_by, kept_by, IsCopiedReply, IsCopyOf, IsCopiedEntry, IsEntryOf, WantsNumber}
+use Rattle.moka_model.specs.Calls.{Reply, BeginCompute, Run, Wait, StillNone, begun_compute, live_at, accepted, after, with_step, entry_of, entry_under, fresh_entry, put_by, removed_by, kept_by, IsCopiedReply, IsCopyOf, IsCopiedEntry, IsEntryOf, WantsNumber}
 use Rattle.moka_model.specs.Calls as calls
 use Rattle.moka_model.specs.Entries as entries_of
 use Rattle.moka_model.specs.CompResults.{of_computed}
-use Rattle.moka_model.specs.StandsFor.{View, StandsFor}
-use Rattle.moka_model.proofs.Callers.{whole, found-is, same_kind-is}
+use Rattle.moka_model.proofs.Callers.{found-is, same_kind-is}
 use Rattle.moka_policy.specs.declared.policy.Refused.{Refused}
 use Rattle.moka_policy.specs.declared.policy.Refused.TheVariants as causes
-use Rattle.moka_rows.specs.declared.rows.Row.{Row}
-use Rattle.moka_rows.specs.Rows.{row_under, touched}
 use Rattle.moka_turns.specs.declared.turn_key.TurnKey.{TurnKey}
 use Rattle.moka_turns.specs.declared.table.OpenTurn.{OpenTurn}
 use Rattle.moka_turns.specs.declared.table.EndedTurn.{EndedTurn}
 use Rattle.moka_turns.specs.Begun.{IsBegun}
 use Rattle.moka_turns.specs.Represents.{Represents, IsOpenRow}
 use Rattle.moka_turns.proofs.Opens.{none-agree}
-use Rattle.moka_expiration.specs.declared.expiration_policy.ExpirationPolicy.{ExpirationPolicy}
-use Rattle.moka_expiration.specs.ExpirationPolicy.{IsDated, AreDated}
-use Rattle.moka_expiration.proofs.Callers.{alive-kept}
-use Rattle.moka_table.specs.LiveEntry.{IsEntryOfRow}
-use Rattle.moka_table.specs.WriteSlot.{is_live_row}
-use Rattle.moka_table.specs.Table.{Contents, entries, stored_write}
-use Rattle.moka_table.proofs.Callers.{of-row}
-use Rattle.moka_housekeeper.specs.Hit.{UsesAt}
-use Rattle.moka_state.specs.declared.compute.Shown.{Shown}
-use Rattle.moka_state.specs.Compute.{IsShown, IsLeft, IsRemoved, IsPut}
+use Rattle.moka_state.specs.Compute.{IsLeft, IsRemoved, IsPut}
 use Rattle.moka_state.specs.Finish.{IsComputed}
 use Rattle.moka_state.specs.Given.{Gives}
-use Rattle.moka_state.proofs.Becoming.{HasNoted, stored-same, becomes-hit}
 use Rattle.moka_state.proofs.Begins.{found-numbered}
-use Rattle.moka_state.proofs.Finds.{live-row, live-absent}
-use Rattle.moka_state.proofs.Held.{same-key}
-use Rattle.moka_state.proofs.Maintained.{HasLives}
 use Rattle.moka_state.proofs.Turns.{gives-accepted}
-use Rattle.moka_state.proofs.Views.{view_with, Becomes, one-each}
 
 -- The result of a compute is that of the specification, with the turn's key.
 module _ {K V : Type 0} (is_clone : V → V → Type 0) (key : K) where
@@ -229,41 +210,3 @@ module _ {K V E : Type 0} (eq : K → K → Bool) (is_clone : V → V → Type 0
   compute-refused apart hash_of opened_now ended_now q number (Some t) opened counted causes.UnknownTicket begins = absurd begins
   compute-refused apart hash_of opened_now ended_now q number (Some t) opened counted causes.TurnIsOpen begins = cc
   compute-refused apart hash_of opened_now ended_now q number (Some t) opened counted causes.WaitsAbandoned begins = absurd begins
-
--- What the lookup of a compute finds is what the specification finds, for every history of the state.
-module _ {K V E : Type 0} (eq : K → K → Bool) (is_clone : V → V → Type 0) {rows : List (Turn K V E)} (laws : IsEquivalence eq) (settings : Settings K V) (contents : Contents K V) (frequency : List ℕ → ℕ → ℕ) (latest number : ℕ)
-    (given : Settings K V) (steps : List (AcceptedStep K V E)) (stands : StandsFor eq is_clone given (whole (view_with settings contents frequency latest number) rows) steps) (lives : ExpirationPolicy) (expired_alike : HasLives settings lives) (dated : AreDated lives (entries contents))
-    (hash_of : K → ℕ) (respects : (a b : K) → eq a b ≡ true → hash_of a ≡ hash_of b) (hashed : AllByRecursion (λ p. p.1.hash ≡ hash_of (arc_value p.1.key)) (entries contents))
-    (k : K) (keep : Bool) (at hash : ℕ) (is : hash ≡ hash_of k) (is_moment : max latest at < 2 ^ 64) where
-  abbrev live_here : Option (Write K V)
-  live_here = live_at eq given k at (events_in steps)
-
-  alive-is : (n : ℕ) (row : Row K V) → row_under n (entries contents) ≡ Some row → (alive : Bool) → is_live_row (max latest at) (Some row) ≡ alive → (not row.info.is_hidden && not (has_come (Rattle.moka_expiration.specs.ExpirationPolicy.deadline_of lives row.info) (max latest at))) ≡ alive
-  alive-is n row there alive live = alive-kept lives row.info (of-row (λ (r : Row K V). IsDated lives r.info) n (entries contents) row dated there) (max latest at) is_moment ∙ live
-
-  live-is : (n : ℕ) (row : Row K V) → row_under n (entries contents) ≡ Some row → eq (arc_value row.key) k ≡ true → (alive : Bool) → is_live_row (max latest at) (Some row) ≡ alive → live_here ≡ cond alive (Some (stored_write row)) None
-  live-is n row there same alive live = live-row eq laws settings contents frequency latest number given steps stands lives expired_alike k at n row there same alive (alive-is n row there alive live)
-
-  -- A row that is found stores the live value.
-  pub shows-live : (shown : Shown K V) → IsShown eq is_clone keep k hash (max latest at) (entries contents) (Some shown)
-      → (row : Row K V) × (live_here ≡ Some (stored_write row)) × IsEntryOfRow is_clone row (entries_of.entry_of shown.entry) × IsCopyOf is_clone (cond keep (Some row.value) None) shown.saved
-  shows-live shown (row, there, of_key, live, entry, kept) = (row, live-is shown.number row there (same-key eq k hash row of_key) true live, entry, kept)
-
-  -- A use of that row is the recorded lookup.
-  pub shows-hit : (shown : Shown K V) (new : Contents K V) → IsShown eq is_clone keep k hash (max latest at) (entries contents) (Some shown) → IfSome (row_under shown.number (entries contents)) (λ row. UsesAt settings.behaviour lives shown.number row (max latest at) contents new)
-      → new.notices ≡ contents.notices → (noted : List ℕ → ℕ → ℕ) → HasNoted eq settings contents frequency latest number k noted
-      → Becomes eq (view_with settings contents frequency latest number) (Looked k at) (view_with settings new noted (max latest at) number)
-  shows-hit shown new (row, there, of_key, live, entry, kept) uses notices noted notes =
-      let same = same-key eq k hash row of_key in
-      let one = one-each eq laws given (view_with settings contents frequency latest number) steps stands in
-      let used = rw there at uses in
-      let touch_is = used.1 in
-      let live_then : is_live settings (stored_write row) (max latest at) ≡ true =
-      ap (λ (expired : Row K V → ℕ → Bool). not row.info.is_hidden && not (expired row (max latest at))) expired_alike ∙ alive-is shown.number row there true live in
-      becomes-hit eq settings contents frequency latest number one new k at shown.number row there same noted used.0 notes live_then
-      (stored-same _ (touched used.0 row) refl refl refl refl refl (sym touch_is.accessed) (sym touch_is.own) refl) used.2 notices
-
-  -- If no row is found, nothing is live.
-  pub shows-none : IsShown eq is_clone keep k hash (max latest at) (entries contents) None → live_here ≡ None
-  shows-none (inl none) = live-absent eq laws settings contents frequency latest number given steps stands hash_of respects hashed k at hash is none
-  shows-none (inr (n, row, there, of_key, dead)) = live-is n row there (same-key eq k hash row of_key) false dead

@@ -1,6 +1,10 @@
 -- What the end of a turn gives, and what a state stands for after it.
-use Rattle.std.proofs.Common.{◌≡◌, ℕ, ◌<◌, max, nat_le, length, is_some, Bool, true, false, cond, Option, Some, None, option_map, List, [], ◌∷◌, ◌++◌, refl, sym, ap, ◌∙◌, subst, arith}
-use Rattle.std.specs.Prelude.{Result, Ok, Err, IsSome}
+use Rattle.std.proofs.Common.{◌≡◌, ℕ, ◌<◌, max, nat_le, length, is_some, not, ◌&&◌, ◌==◌, Bool, true, false, cond, Option, Some, None, option_map, List, [], ◌∷◌, ◌++◌, refl, sym, ap, ◌∙◌, subst, arith}
+use Rattle.std.specs.Prelude.{Result, Ok, Err, IsSome, IsSomeAnd}
+use Rattle.std.specs.Arc.{arc_value}
+use Rattle.std.specs.Cmp.{IsEquivalence}
+use Rattle.std.specs.Map.{lookup}
+use Rattle.std.proofs.lemmas.Bool.{eq-eqb, eqb-true}
 use Rattle.std.specs.Option.{MatchOption, IfSome}
 use Rattle.moka_policy.specs.declared.policy.Refused.{Refused}
 use Rattle.moka_policy.specs.declared.policy.Refused.TheVariants.{OutOfMemory, NumbersUsedUp, UnknownTurn}
@@ -11,11 +15,11 @@ use Rattle.moka_model.specs.Events.{Event, Maintained, latest}
 use Rattle.moka_model.specs.Maintenance.{Queues}
 use Rattle.moka_model.specs.Orders.{live}
 use Rattle.moka_model.specs.Numbers.{drawn_in, next_number, greatest_number, flush_point, stores_nothing}
-use Rattle.moka_model.specs.Turns.{Turn, Name, Move, Ended, fits, moved, found, is_open_as}
+use Rattle.moka_model.specs.Turns.{Turn, Name, Move, Ended, fits, moved, found, is_open_as, is_open_for}
 use Rattle.moka_model.specs.Steps.{AcceptedStep, events_in, turns}
 use Rattle.moka_model.specs.Calls as calls
 use Rattle.moka_model.specs.Entries.{entry_of}
-use Rattle.moka_model.specs.Calls.{Reply, Entered, Accepted, Finish, end_by, reply_of_finish, finish_events, finished, is_replacing, accepted, after, with_step, FinishMayFail, WantsNumber, IsCopiedReply, IsCopiedEnd, IsLegal, Holds}
+use Rattle.moka_model.specs.Calls.{Reply, Entered, Accepted, Finish, Insert, IsOutOfNumbers, end_by, reply_of_finish, finish_events, finished, is_replacing, accepted, after, with_step, FinishMayFail, WantsNumber, IsCopiedReply, IsCopiedEnd, IsLegal, Holds}
 use Rattle.moka_model.specs.Turns as turning
 use Rattle.moka_turns.specs.declared.table.TurnEnd.{TurnEnd}
 use Rattle.moka_turns.specs.declared.table.TurnEnd.TheVariants as ends_of
@@ -24,10 +28,23 @@ use Rattle.moka_model.specs.StandsFor.{Books, View, StandsFor}
 use Rattle.moka_expiration.specs.StateData.{SettingsData, StateData}
 use Rattle.moka_table.specs.Table.{Contents, SameRows}
 use Rattle.moka_state.specs.State.{books_by}
-use Rattle.moka_model.proofs.Callers.{IsViewOf, whole, stands-moved, orders-empty, standing-empty}
+use Rattle.moka_model.proofs.Callers.{IsViewOf, whole, stands-moved, orders-empty, standing-empty, out_of_numbers-insert}
+use Rattle.moka_turns.specs.declared.handles.Turn as handles
+use Rattle.moka_turns.specs.declared.turn_key.TurnKey.{TurnKey}
+use Rattle.moka_turns.specs.declared.table.OpenTurn.{OpenTurn}
+use Rattle.moka_turns.specs.declared.table.EndedTurn.{EndedTurn}
+use Rattle.moka_turns.specs.Open.{IsOpenAs, IsOpenFor, IsOpenWith}
+use Rattle.moka_turns.specs.Represents.{turns_in}
 use Rattle.moka_turns.proofs.Begins.{nobody}
+use Rattle.moka_turns.proofs.Views.{is_at, row_of, table-row}
 use Rattle.moka_state.specs.declared.answers.Answer as answers
 use Rattle.moka_state.specs.declared.answers.Answer.TheVariants as gives
+use Rattle.std.specs.declared.sync.Arc.{Arc}
+use Rattle.std.specs.declared.alloc.Global.{Global}
+use Rattle.moka_state.specs.declared.answers.Finished.{Finished}
+use Rattle.moka_state.specs.declared.answers.FinishRefused.{FinishRefused}
+use Rattle.moka_turns.specs.Handles.{turn_name}
+use Rattle.moka_state.specs.Ends.{Spec, IsOpenTurn, FinishesNamed}
 use Rattle.moka_state.specs.Given.{Gives, of_answer}
 use Rattle.moka_state.specs.Finish.{IsGiven}
 use Rattle.moka_state.proofs.Turns.{gives-accepted, gives-memory}
@@ -83,13 +100,93 @@ never-replaced {K} {V} eq settings none steps legal k at =
     ∙ ap (λ o. is_some (live_one settings m o)) (standing-empty eq settings none k steps legal)
 
 -- a search of an open turn that returned something, and one that returned nothing
-pub open-told : {A : Type 0} (Q : A → Type 0) (o : Option A) (result : Option ℕ) → MatchOption o (result ≡ None) (λ a. IsSome result × Q a) → IsSome result → (a : A) × (o ≡ Some a) × Q a
-open-told Q None result is some = absurd (nobody result is some)
-open-told Q (Some a) result is some = (a, refl, is.1)
+pub told-open : {A : Type 0} (Q : A → Type 0) (o : Option A) (n : ℕ) → MatchOption o (Some n ≡ None) (λ a. IsSome (Some n) × Q a) → IsSomeAnd o Q
+told-open Q None n is = cc
+told-open Q (Some a) n is = is.1
 
 pub closed-told : {A : Type 0} (Q : A → Type 0) (o : Option A) (result : Option ℕ) → MatchOption o (result ≡ None) (λ a. IsSome result × Q a) → result ≡ None → o ≡ None
 closed-told Q None result is none = refl
 closed-told Q (Some a) result is none = absurd (nobody result none is.0)
+
+-- what is there, by its equation
+pub taken : {A : Type 0} (Q : A → Type 0) (o : Option A) → IsSomeAnd o Q → (a : A) × (o ≡ Some a) × Q a
+taken Q None is = absurd is
+taken Q (Some a) is = (a, refl, is)
+
+-- The turn is among these as an open one, and as many tickets of it are unspent.
+abbrev pub IsStored : {K V E : Type 0} → (K → K → Bool) → handles.Turn K → List (Turn K V E) → Type 0
+IsStored eq turn rows = IsSomeAnd (found (is_open_for eq turn.key.kind (arc_value turn.key.key)) rows) (λ t. t.name.number ≡ turn.number)
+
+abbrev pub HasTickets : {K V E : Type 0} → (K → K → Bool) → handles.Turn K → ℕ → List (Turn K V E) → Type 0
+HasTickets eq turn waiting rows = IfSome (found (is_open_for eq turn.key.kind (arc_value turn.key.key)) rows) (λ t. t.unspent ≡ waiting)
+
+-- The open turn of a state, and its entry in the table of turns.
+module _ {K V E : Type 0} (eq : K → K → Bool) (laws : IsEquivalence eq) (is_clone : V → V → Type 0) (hash_of : K → ℕ) (respects : (a b : K) → eq a b ≡ true → hash_of a ≡ hash_of b)
+    (opened : List (TurnKey K × OpenTurn V)) (ended : List (ℕ × EndedTurn K V E)) (turn : handles.Turn K) (hashed : turn.key.hash ≡ hash_of (arc_value turn.key.key)) where
+  abbrev stored : Option (Turn K V E)
+  stored = found (is_open_for eq turn.key.kind (arc_value turn.key.key)) (turns_in hash_of opened ended)
+
+  abbrev entry : Option (OpenTurn V)
+  entry = lookup (is_at eq turn.key) opened
+
+  same-entry : option_map row_of stored ≡ entry
+  same-entry = table-row eq laws is_clone hash_of respects opened ended turn.key hashed
+
+  abbrev HasNumber : Option (Turn K V E) → Type 0
+  HasNumber o = IsSomeAnd o (λ t. t.name.number ≡ turn.number)
+
+  abbrev HasWaiting : ℕ → Option (Turn K V E) → Type 0
+  HasWaiting waiting o = IfSome o (λ t. t.unspent ≡ waiting)
+
+  -- an entry that is found is that of an open turn of the state,
+  pub entry-stored : (waiting : ℕ) → IsOpenWith turn.number waiting entry → HasNumber stored × HasWaiting waiting stored
+  entry-stored waiting is = go stored (subst (IsOpenWith turn.number waiting) (sym same-entry) is)
+    where
+      go : (o : Option (Turn K V E)) → IsOpenWith turn.number waiting (option_map row_of o) → HasNumber o × HasWaiting waiting o
+      go None is = let no : false ≡ true = is.0 in cc
+      go (Some t) is = is.1
+
+  -- and conversely
+  pub stored-entry : HasNumber stored → IsOpenAs turn.number entry
+  stored-entry is = subst (IsOpenAs turn.number) same-entry (go stored is)
+    where
+      go : (o : Option (Turn K V E)) → HasNumber o → IsOpenAs turn.number (option_map row_of o)
+      go None is = absurd is
+      go (Some t) is = (refl, is)
+
+  pub stored-for : {A : Type 0} (end : Option A) (waiting : ℕ) → HasNumber stored → HasWaiting waiting stored → (0 < waiting → IsSome end) → IsOpenFor turn.number end entry
+  stored-for end waiting is awaited saved = subst (IsOpenFor turn.number end) same-entry (go stored is awaited)
+    where
+      go : (o : Option (Turn K V E)) → HasNumber o → HasWaiting waiting o → IsOpenFor turn.number end (option_map row_of o)
+      go None is awaited = absurd is
+      go (Some t) is awaited = (refl, (is, λ less. saved (rw awaited at less)))
+
+  -- an end that is retained serves however many wait
+  pub stored-with : {A : Type 0} (end : A) → HasNumber stored → IsOpenFor turn.number (Some end) entry
+  stored-with end is = subst (IsOpenFor turn.number (Some end)) same-entry (go stored is)
+    where
+      go : (o : Option (Turn K V E)) → HasNumber o → IsOpenFor turn.number (Some end) (option_map row_of o)
+      go None is = absurd is
+      go (Some t) is = (refl, (is, λ less. refl))
+
+-- Whether the state's own check says that a write is out of sequence numbers.
+module _ {K V E : Type 0} (eq : K → K → Bool) (settings : Settings K V) (steps : List (AcceptedStep K V E)) (k : K) (v : V) (at : ℕ) (capacity : Option ℕ) (next : ℕ) (same : capacity ≡ settings.max_capacity) (counted : next ≡ next_number settings (events_in steps)) where
+  pub write-left : (not (stores_nothing capacity) && (next == greatest_number)) ≡ false → ¬ (IsOutOfNumbers eq settings steps (Insert k v at))
+  write-left left out =
+      let both = (out_of_numbers-insert eq settings k v at steps).0 out in
+      let stores : stores_nothing capacity ≡ false = ap stores_nothing same ∙ both.0 in
+      let used_up : (next == greatest_number) ≡ true = eq-eqb next greatest_number (counted ∙ both.1) in
+      let no : true ≡ false = sym (ap (λ b. not b && (next == greatest_number)) stores ∙ used_up) ∙ left in
+      cc
+
+  pub write-full : (not (stores_nothing capacity) && (next == greatest_number)) ≡ true → IsOutOfNumbers eq settings steps (Insert k v at)
+  write-full full =
+      let both = wanted (stores_nothing capacity) (next == greatest_number) full in
+      (out_of_numbers-insert eq settings k v at steps).1 (sym (ap stores_nothing same) ∙ both.0, sym counted ∙ eqb-true next greatest_number both.1)
+    where
+      wanted : (nothing used_up : Bool) → (not nothing && used_up) ≡ true → (nothing ≡ false) × (used_up ≡ true)
+      wanted true used_up e = cc
+      wanted false used_up e = (refl, e)
 
 -- if the kept value is a clone, so is the kept end with it
 pub saved-copied : {V : Type 0} (E : Type 0) (is_clone : V → V → Type 0) (value : V) (is_replaced : Bool) (kept : Option V) → IfSome kept (is_clone value)
@@ -123,3 +220,8 @@ given-entry {K} {V} {E} is_clone key v (gives.Entry entry) e is keyed copied =
     (ap (λ (x : calls.Entry K V). x.key) same ∙ keyed, subst (λ (x : calls.Entry K V). is_clone v x.value) (sym same) copied)
 given-entry is_clone key v gives.Nothing e is keyed copied = cc
 given-entry is_clone key v (gives.Failed error) e is keyed copied = cc
+
+-- A turn that ends under a name ends under an equal one. The open turn tells of which cache.
+pub finishes-as : {K V H W X F E : Type 0} {spec : Spec K V E (StateData K V H W X F E)} {turn : handles.Turn K} {name : Name K} {outcome : Outcome V (Arc E Global)} {now : ℕ} {old new : StateData K V H W X F E} {result : Result (Finished K V E) (FinishRefused K V E)}
+    → IsOpenTurn spec turn old → turn_name turn ≡ name → FinishesNamed spec (turn_name turn) outcome now old new result → FinishesNamed spec name outcome now old new result
+finishes-as {spec = spec} {outcome = outcome} {now = now} {old = old} {new = new} {result = result} opened same ends = subst (λ n. FinishesNamed spec n outcome now old new result) same ends

@@ -1,9 +1,6 @@
 -- What a loader returns, by its begin and by the end of its turn.
 use Rattle.std.proofs.Common.{◌≡◌, ◌≢◌, ℕ, Bool, true, false, Option, Some, None, option_map, List, [], ◌∷◌, ◌++◌, refl, sym, ap, ◌∙◌, subst, eq-eqb}
 use Rattle.std.specs.Prelude.{Result, Ok, Err, OnOk, OnErr, IfOk, IfErr, IfSome, IsSome}
-use Rattle.std.specs.Arc.{arc_value}
-use Rattle.std.specs.declared.sync.Arc.{Arc}
-use Rattle.std.specs.declared.alloc.Global.{Global}
 use Rattle.std.specs.Cmp.{IsEquivalence}
 use Rattle.std.specs.Fn.{Mut}
 use denote.Ref.{Bor}
@@ -16,15 +13,12 @@ use Rattle.moka_model.specs.declared.turns.Outcome.TheVariants as outcomes
 use Rattle.moka_model.specs.Lives.{Settings, Write}
 use Rattle.moka_model.specs.Steps.{AcceptedStep, events_in, turns}
 use Rattle.moka_model.specs.Turns.{Name, Turn, Opened, opening, fits, found, same_kind, is_open_for, is_open_as}
-use Rattle.moka_model.specs.Calls.{Call, Accepted, Begin, Finish, Abandon, Entered, Run, GaveNothing, GaveError, acceptable, accepted, after, begun, live_at, new_name, with_step}
+use Rattle.moka_model.specs.Calls.{Call, Accepted, Begin, Finish, Abandon, Run, acceptable, accepted, after, begun, live_at, new_name, with_step}
 use Rattle.moka_model.specs.Calls as calls
 use Rattle.moka_model.specs.StandsFor.{WholeView, StandsFor, IsReplyOf}
 use Rattle.moka_state.specs.Begin.{GivesBegun, IsSaidOf}
-use Rattle.moka_state.specs.Forms.{IsForm, IsFailed, IsOptional, IsTried, IsValue, tried_outcome}
-use Rattle.moka_state.specs.declared.answers.Answer as answers
-use Rattle.moka_state.specs.declared.answers.Answer.TheVariants as given
-use Rattle.moka_state.specs.Finish.{IsGiven}
-use Rattle.moka_state.specs.Given.{Gives, of_answer, of_done}
+use Rattle.moka_state.specs.Forms.{IsForm}
+use Rattle.moka_state.specs.Given.{Gives, of_done}
 use Rattle.moka_state.proofs.Begins.{begun-initializer}
 use Rattle.moka_state.proofs.Finishes.{finish-memory}
 use Rattle.moka_state.proofs.Turns.{no-less}
@@ -67,49 +61,6 @@ pub unsaid : {K V F : Type 0} (call : Mut F (Bor V × Unit {0}) Bool) (replace_i
 unsaid call replace_if None said none says = says
 unsaid call None (Some w) said none says = says
 unsaid call (Some f) (Some w) said none says = cc
-
--- A value or an error, as the result of a loader that may return something else too.
-module _ {K V E : Type 0} where
-  pub optional-value : (answer : Result (calls.Reply K V E) Refused) (v : V) → IsValue answer (Ok v) → IsOptional answer (Ok (Some v))
-  optional-value (Ok (Entered e)) v is = is
-  optional-value (Ok answer) v is = absurd is
-  optional-value (Err cause) v is = absurd is
-
-  pub optional-refused : (answer : Result (calls.Reply K V E) Refused) (cause : Refused) → IsValue answer (Err cause) → IsOptional answer (Err cause)
-  optional-refused (Ok (Entered e)) cause is = absurd is
-  optional-refused (Ok answer) cause is = absurd is
-  optional-refused (Err own) cause is = is
-
-  -- the reply for a turn that ends without a value
-  pub optional-none : (is_clone : V → V → Type 0) (key : K) (answer : answers.Answer K V E) → IsGiven is_clone key outcomes.Nothing answer → of_answer answer ≡ GaveNothing
-  optional-none is_clone key given.Nothing is = refl
-  optional-none is_clone key (given.Entry entry) is = absurd is
-  optional-none is_clone key (given.Failed error) is = absurd is
-
-  pub tried-value : (answer : Result (calls.Reply K V E) Refused) (v : V) → IsValue answer (Ok v) → IsTried answer (Ok (Ok v))
-  tried-value (Ok (Entered e)) v is = is
-  tried-value (Ok answer) v is = absurd is
-  tried-value (Err cause) v is = absurd is
-
-  pub tried-refused : (answer : Result (calls.Reply K V E) Refused) (cause : Refused) → IsValue answer (Err cause) → IsTried answer (Err cause)
-  tried-refused (Ok (Entered e)) cause is = absurd is
-  tried-refused (Ok answer) cause is = absurd is
-  tried-refused (Err own) cause is = is
-
-  pub tried-failed : (answer : Result (calls.Reply K V E) Refused) (shared : Arc E Global) → IsFailed answer (Ok shared) → IsTried answer (Ok (Err shared))
-  tried-failed (Ok (GaveError e)) shared is = is
-  tried-failed (Ok answer) shared is = absurd is
-  tried-failed (Err cause) shared is = absurd is
-
-  pub failed-refused : (answer : Result (calls.Reply K V E) Refused) (cause : Refused) → IsFailed answer (Err cause) → IsTried answer (Err cause)
-  failed-refused (Ok (GaveError e)) cause is = absurd is
-  failed-refused (Ok answer) cause is = absurd is
-  failed-refused (Err own) cause is = is
-
--- a turn for a value or an error may end with either
-pub fits-tried : {V E : Type 0} (given : Result V E) (kind : Kind) → kind ≡ Try → fits kind (tried_outcome given) ≡ true
-fits-tried (Ok v) kind is = rw is refl
-fits-tried (Err e) kind is = rw is refl
 
 same_kind-same : (a : Kind) → same_kind a a ≡ true
 same_kind-same With = refl

@@ -8,7 +8,6 @@ pub mod Computes
 pub mod Conserved
 pub mod Counts
 pub mod Elements
-pub mod EntryForms
 pub mod Finds
 pub mod Finishes
 pub mod Forms
@@ -16,6 +15,7 @@ pub mod HandsOuts
 pub mod Held
 pub mod Inserts
 pub mod LiveReads
+pub mod Loaders
 pub mod Maintained
 pub mod OrInserts
 pub mod Orders

@@ -22,8 +22,8 @@ use Rattle.moka_model.specs.StandsFor.{Books, books_of, WholeView, StandsFor, Fo
 use Rattle.moka_model.proofs.Callers.{held-orders, filter-both, IsLegal-after}
 use Rattle.moka_policy.specs.declared.policy.Refused.{Refused}
 use Rattle.moka_policy.specs.declared.policy.Refused.TheVariants as causes
-use Rattle.moka_state.specs.declared.answers.Begun.{Begun}
-use Rattle.moka_state.specs.declared.answers.Begun.TheVariants as begins
+use Rattle.moka_state.specs.BegunOf.{BegunOf}
+use Rattle.moka_single_flight.specs.declared.replies.Begun.TheVariants as begins
 use Rattle.moka_state.specs.Begin.{IsSaidOf, GivesBegun}
 use Rattle.moka_state.specs.Given.{Gives, of_begin}
 use Rattle.moka_state.specs.Replies.{after_given, HasNoNotice, ReplyEntryKeeps}
@@ -152,7 +152,7 @@ unasked call None said is = is
 unasked call (Some w) said is = is
 
 -- the result of a begin that may wait is one of the specification
-pub begun-gives : {K V E : Type 0} (eq : K → K → Bool) (is_clone : V → V → Type 0) (is_infallible : V → Type 0) (settings : Settings K V) (steps : List (AcceptedStep K V E)) (call : Call K V E) (result : Result (Begun K V) Refused)
+pub begun-gives : {K V E : Type 0} (eq : K → K → Bool) (is_clone : V → V → Type 0) (is_infallible : V → Type 0) (settings : Settings K V) (steps : List (AcceptedStep K V E)) (call : Call K V E) (result : Result (BegunOf K V) Refused)
     → GivesBegun eq is_clone is_infallible settings steps call true result → Gives eq is_clone is_infallible settings steps call (of_begin result)
 begun-gives eq is_clone is_infallible settings steps call (Ok (begins.Found entry)) is = is
 begun-gives eq is_clone is_infallible settings steps call (Ok (begins.Run turn)) is = is

@@ -16,8 +16,8 @@ use Rattle.moka_model.specs.Calls.{Call, Begin, Entered, IsWait, IfReplied, acce
 use Rattle.moka_expiration.specs.StateData.{SettingsData, StateData}
 use Rattle.moka_table.specs.LiveEntry.{IsCalledOnce, IsSaid}
 use Rattle.moka_state.specs.State.{all_writes}
-use Rattle.moka_state.specs.declared.answers.Begun.{Begun}
-use Rattle.moka_state.specs.declared.answers.Begun.TheVariants as begins
+use Rattle.moka_state.specs.BegunOf.{BegunOf}
+use Rattle.moka_single_flight.specs.declared.replies.Begun.TheVariants as begins
 use Rattle.moka_state.specs.Given.{Gives, of_begin}
 
 -- The closure may be called at each value that satisfies the invariant.
@@ -65,7 +65,7 @@ pub record LookEnds {K V H W X F E : Type 0} (gives : Result (Option (Entry K V)
 -- A begin that may not wait fails with `TurnIsOpen` only if it would have to wait, and only one that may wait returns a
 -- ticket. Any other result is the one of the specification.
 abbrev pub GivesBegun : {K V E : Type 0} → (K → K → Bool) → (V → V → Type 0) → (V → Type 0) → Settings K V →
-    List (AcceptedStep K V E) → Call K V E → Bool → Result (Begun K V) Refused → Type 0
+    List (AcceptedStep K V E) → Call K V E → Bool → Result (BegunOf K V) Refused → Type 0
 GivesBegun eq is_clone is_infallible settings steps call may_wait (Err causes.TurnIsOpen) =
     (may_wait ≡ false) × IfReplied IsWait (accepted eq settings steps call)
 GivesBegun eq is_clone is_infallible settings steps call may_wait (Ok (begins.Wait ticket)) =
@@ -74,20 +74,20 @@ GivesBegun eq is_clone is_infallible settings steps call may_wait result =
     Gives eq is_clone is_infallible settings steps call (of_begin result)
 
 -- A begin ends as `gives` says. If it succeeds, `follows` holds; if it fails, nothing has changed.
-pub record BeginEnds {K V H W X F E : Type 0} (gives : Result (Begun K V) Refused → Type 0) (follows : Type 0)
-    (old new : StateData K V H W X F E) (result : Result (Begun K V) Refused) : Type 0 where
+pub record BeginEnds {K V H W X F E : Type 0} (gives : Result (BegunOf K V) Refused → Type 0) (follows : Type 0)
+    (old new : StateData K V H W X F E) (result : Result (BegunOf K V) Refused) : Type 0 where
   pub reply : gives result
   pub stands : OnOk result follows
   pub refused : OnErr result (new ≡ old)
 
 -- The turn or the ticket that is returned has this kind, and exactly this key.
-abbrev pub IsNamed : {K V : Type 0} → Kind → K → Begun K V → Type 0
+abbrev pub IsNamed : {K V : Type 0} → Kind → K → BegunOf K V → Type 0
 IsNamed kind key (begins.Found entry) = ⊤
 IsNamed kind key (begins.Run turn) = (turn.key.kind ≡ kind) × (arc_value turn.key.key ≡ key)
 IsNamed kind key (begins.Wait ticket) = (ticket.key.kind ≡ kind) × (arc_value ticket.key.key ≡ key)
 
 -- The value that is found, if any, satisfies the invariant with the stored key.
-abbrev pub FoundKeeps : {K V : Type 0} → (K → V → Type 0) → Begun K V → Type 0
+abbrev pub FoundKeeps : {K V : Type 0} → (K → V → Type 0) → BegunOf K V → Type 0
 FoundKeeps keeps (begins.Found entry) = keeps (entry_of entry).key (entry_of entry).value
 FoundKeeps keeps begun = ⊤
 
@@ -96,12 +96,12 @@ abbrev pub EntryKeeps : {K V : Type 0} → (K → V → Type 0) → K → Entry 
 EntryKeeps keeps key entry = keeps (entry_of entry).key (entry_of entry).value × keeps key (entry_of entry).value
 
 -- P if a ticket is returned.
-abbrev pub IfWait : {K V : Type 0} → Type 0 → Begun K V → Type 0
+abbrev pub IfWait : {K V : Type 0} → Type 0 → BegunOf K V → Type 0
 IfWait P (begins.Wait ticket) = P
 IfWait P begun = ⊤
 
 -- The value that is found, if any, satisfies the invariant with the key that was looked up.
-abbrev pub FoundKeepsFor : {K V : Type 0} → (K → V → Type 0) → K → Begun K V → Type 0
+abbrev pub FoundKeepsFor : {K V : Type 0} → (K → V → Type 0) → K → BegunOf K V → Type 0
 FoundKeepsFor keeps key (begins.Found entry) = keeps key (entry_of entry).value
 FoundKeepsFor keeps key begun = ⊤
 

@@ -1,5 +1,6 @@
 -- The begin of a compute, and the results of computes.
-use Rattle.std.specs.Prelude.{⊤, ◌≡◌, ◌⊎◌, ℕ, Bool, true, false, Option, Some, None, List, Result, Err, OnOk, OnErr, IfSome, if◌then◌else◌}
+use Rattle.std.specs.Prelude.{⊤, ◌≡◌, ℕ, Bool, true, false, Option, Some, None, List, Result, Ok, Err, OnOk, OnErr, IfSome}
+use Rattle.std.specs.Prelude.{if◌then◌else◌}
 use Rattle.std.specs.Arc.{arc_value}
 use Rattle.moka_policy.specs.declared.policy.Refused.{Refused}
 use Rattle.moka_policy.specs.declared.policy.Refused.TheVariants as causes
@@ -12,12 +13,13 @@ use Rattle.moka_model.specs.Calls.{Call, IsCopyOf, IsWait, IfReplied, accepted, 
 use Rattle.moka_model.specs.Calls as calls
 use Rattle.moka_model.specs.Entries.{entry_of}
 use Rattle.moka_rows.specs.declared.rows.Row.{Row}
-use Rattle.moka_rows.specs.Rows.{row_under, IsRowOf, NoneIsRowOf}
-use Rattle.moka_table.specs.LiveEntry.{IsEntryOfRow}
+use Rattle.moka_rows.specs.Rows.{row_under, IsRowOf}
+use Rattle.moka_table.specs.LiveEntry.{FindsLive, IsEntryOfRow}
 use Rattle.moka_table.specs.WriteSlot.{is_live_row}
 use Rattle.moka_expiration.specs.StateData.{StateData}
 use Rattle.moka_state.specs.declared.answers.BegunCompute.{BegunCompute}
 use Rattle.moka_state.specs.declared.answers.BegunCompute.TheVariants as begins
+use Rattle.moka_state.specs.declared.answers.ShownTurn.{ShownTurn}
 use Rattle.moka_state.specs.declared.compute.Shown.{Shown}
 use Rattle.moka_state.specs.Begin.{EntryKeeps}
 use Rattle.moka_state.specs.Given.{Gives, of_begin_compute}
@@ -29,9 +31,7 @@ abbrev pub IsShown : {K V : Type 0} → (K → K → Bool) → (V → V → Type
 IsShown {K} {V} eq is_clone keep key hash at rows (Some shown) =
     (row : Row K V) × (row_under shown.number rows ≡ Some row) × IsRowOf eq key hash row × (is_live_row at (Some row) ≡ true)
     × IsEntryOfRow is_clone row (entry_of shown.entry) × IsCopyOf is_clone (if keep then Some row.value else None) shown.saved
-IsShown {K} {V} eq is_clone keep key hash at rows None =
-    NoneIsRowOf eq key hash rows
-    ⊎ ((n : ℕ) × (row : Row K V) × (row_under n rows ≡ Some row) × IsRowOf eq key hash row × (is_live_row at (Some row) ≡ false))
+IsShown {K} {V} eq is_clone keep key hash at rows None = FindsLive eq key hash at rows None
 
 -- The begin of a compute ends as `gives` says. If it succeeds, `follows` holds; if it fails, nothing has changed.
 pub record ComputeBegins {K V H W X F E : Type 0} (gives : Result (calls.Reply K V E) Refused → Type 0) (follows : Type 0)
@@ -48,6 +48,11 @@ GivesAtOnce eq is_clone is_infallible settings steps call may_wait (Err causes.T
     (may_wait ≡ false) × IfReplied IsWait (accepted eq settings steps call)
 GivesAtOnce eq is_clone is_infallible settings steps call may_wait result =
     Gives eq is_clone is_infallible settings steps call result
+
+-- The result of the begin of a compute that never waits, as that of one that may.
+abbrev pub as_begun_compute : {K V : Type 0} → Result (ShownTurn K V) Refused → Result (BegunCompute K V) Refused
+as_begun_compute (Ok begun) = Ok (begins.Run begun.turn begun.shown)
+as_begun_compute (Err cause) = Err cause
 
 -- P if a ticket is returned.
 abbrev pub IfWaits : {K V : Type 0} → Type 0 → BegunCompute K V → Type 0

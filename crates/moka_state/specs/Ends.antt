@@ -1,5 +1,7 @@
 -- How the calls of a state end, over all its histories. Each word takes the specification at the types of the cache first.
-use Rattle.std.specs.Prelude.{◌≡◌, ◌≢◌, ℕ, Bool, Option, None, List, Result, IsOk, IfOk, IfErr, OnOk, OnErr, IfSome, IsSome, option_map}
+use Rattle.std.specs.Prelude.{◌≡◌, ◌≢◌, ℕ, Bool, true, false, Option, None, List}
+use Rattle.std.specs.Prelude.{Result, IsOk, IfOk, IfErr, OnOk, OnErr, IfSome, IsSome, IsSomeAnd, option_map}
+use Rattle.std.specs.Arc.{arc_value}
 use Rattle.std.specs.declared.sync.Arc.{Arc}
 use Rattle.std.specs.declared.alloc.Global.{Global}
 use Rattle.moka_policy.specs.declared.policy.Refused.{Refused}
@@ -11,14 +13,16 @@ use Rattle.moka_model.specs.declared.turns.Op.{Op}
 use Rattle.moka_model.specs.declared.turns.Outcome.{Outcome}
 use Rattle.moka_model.specs.Entries.{entry_of}
 use Rattle.moka_model.specs.Lives.{Settings, Write}
-use Rattle.moka_model.specs.Steps.{AcceptedStep, events_in}
-use Rattle.moka_model.specs.Turns.{Name}
+use Rattle.moka_model.specs.Steps.{AcceptedStep, events_in, turns}
+use Rattle.moka_model.specs.Turns.{Name, found, is_open_as, is_open_for}
+use Rattle.moka_model.specs.Turns as turning
 use Rattle.moka_model.specs.Calls as calls
-use Rattle.moka_model.specs.Calls.{Call, Begin, BeginCompute, Finish, OrInsert, Found, acceptable, accepted, live_at, reply_of}
+use Rattle.moka_model.specs.Calls.{Call, Begin, BeginCompute, Finish, Insert, OrInsert}
+use Rattle.moka_model.specs.Calls.{Found, acceptable, accepted, is_replacing, live_at, reply_of}
 use Rattle.moka_expiration.specs.StateData.{StateData}
 use Rattle.moka_turns.specs.declared.handles.Turn.{Turn}
 use Rattle.moka_turns.specs.Handles.{turn_name}
-use Rattle.moka_state.specs.declared.answers.Begun.{Begun}
+use Rattle.moka_state.specs.BegunOf.{BegunOf}
 use Rattle.moka_state.specs.declared.answers.BegunCompute.{BegunCompute}
 use Rattle.moka_state.specs.declared.answers.Finished.{Finished}
 use Rattle.moka_state.specs.declared.answers.FinishRefused.{FinishRefused}
@@ -87,6 +91,16 @@ module _ {K V E S : Type 0} (spec : Spec K V E S) where
   Misses state said key now = spec.at_each state (λ settings steps.
       acceptable said (live_at spec.eq settings key now (events_in steps)) ≡ None)
 
+  -- Whether a write of the key at the moment replaces a live value, after each history.
+  abbrev pub Replaces : K → ℕ → S → Bool → Type 0
+  Replaces key now state replaced =
+      spec.at_each state (λ settings steps. replaced ≡ is_replacing spec.eq settings (events_in steps) key now)
+
+  -- A write that draws a sequence number. With `true`, a lookup that found no live value is noted first.
+  abbrev pub Commits : Bool → K → V → ℕ → S → S → Type 0
+  Commits false key value now old new = spec.follows old (Insert key value now) new
+  Commits true key value now old new = IsAbsentAt old key now → spec.follows old (OrInsert key value now) new
+
   -- A call that is made of a key and a moment reads the live value.
   abbrev pub ReadsLive : (K → ℕ → Call K V E) → K → ℕ → S → S → Result (Option V) Refused → Type 0
   ReadsLive call_at key now old new result =
@@ -132,12 +146,6 @@ module _ {K V E S : Type 0} (spec : Spec K V E S) where
       Type 0
   EndsTurnAs name outcome now is_result old new result =
       (reply : Result (calls.Reply K V E) Refused) × EndsTurnAt name outcome now reply old new × is_result reply result
-
-  -- The same, if the turn was open.
-  abbrev pub EndsOpenTurnAs : {R : Type 0} → Name K → Outcome V E → ℕ → (Result (calls.Reply K V E) Refused → R → Type 0) → S → S →
-      R → Type 0
-  EndsOpenTurnAs name outcome now is_result old new result =
-      (reply : Result (calls.Reply K V E) Refused) × EndsOpenTurn name outcome now reply old new × is_result reply result
 
   -- The turn of a compute ends with an operation, or is abandoned if there is none.
   abbrev pub EndsComputeAt : Name K → Option (Op V) → ℕ → Result (calls.Reply K V E) Refused → S → S → Type 0
@@ -226,7 +234,7 @@ module _ {K V E S : Type 0} (spec : Spec K V E S) where
 module _ {K V H W X F E : Type 0} (spec : Spec K V E (StateData K V H W X F E)) where
   -- A begin of a loader ends. `said` is what `replace_if` returned for the live value, if it was asked.
   abbrev pub LoaderBeginsAs : Option Bool → K → Kind → ℕ → Bool → StateData K V H W X F E → StateData K V H W X F E →
-      Result (Begun K V) Refused → Type 0
+      Result (BegunOf K V) Refused → Type 0
   LoaderBeginsAs said key kind now may_wait old new result =
       BeginEnds (λ given. spec.at_each old (λ settings steps.
       GivesBegun spec.eq spec.is_clone spec.is_infallible settings steps (Begin key kind said now) may_wait given))
@@ -234,7 +242,7 @@ module _ {K V H W X F E : Type 0} (spec : Spec K V E (StateData K V H W X F E)) 
 
   -- The same, where `says` holds of the live value and of `said`.
   abbrev pub LoaderBeginsSaid : (Option (Write K V) → Option Bool → Type 0) → Option Bool → K → Kind → ℕ → Bool →
-      StateData K V H W X F E → StateData K V H W X F E → Result (Begun K V) Refused → Type 0
+      StateData K V H W X F E → StateData K V H W X F E → Result (BegunOf K V) Refused → Type 0
   LoaderBeginsSaid says said key kind now may_wait old new result =
       BeginEnds (λ given. spec.at_each old (λ settings steps.
       says (live_at spec.eq settings key now (events_in steps)) said
@@ -243,13 +251,13 @@ module _ {K V H W X F E : Type 0} (spec : Spec K V E (StateData K V H W X F E)) 
 
   -- The same, for what `replace_if` returned.
   abbrev pub LoaderBegins : (Option (Write K V) → Option Bool → Type 0) → K → Kind → ℕ → Bool → StateData K V H W X F E →
-      StateData K V H W X F E → Result (Begun K V) Refused → Type 0
+      StateData K V H W X F E → Result (BegunOf K V) Refused → Type 0
   LoaderBegins says key kind now may_wait old new result =
       (said : Option Bool) × LoaderBeginsSaid says said key kind now may_wait old new result
 
   -- The same for a key by reference: the begin is that of a key of which `is_asked` holds.
   abbrev pub LoaderBeginsByRef : (K → Type 0) → (Option (Write K V) → Option Bool → Type 0) → Kind → ℕ → Bool →
-      StateData K V H W X F E → StateData K V H W X F E → Result (Begun K V) Refused → Type 0
+      StateData K V H W X F E → StateData K V H W X F E → Result (BegunOf K V) Refused → Type 0
   LoaderBeginsByRef is_asked says kind now may_wait old new result =
       (asked : K) × is_asked asked × (said : Option Bool)
       × LoaderBeginsSaid says said asked kind now may_wait old new result × IfOk result (IsNamed kind asked)
@@ -279,13 +287,36 @@ module _ {K V H W X F E : Type 0} (spec : Spec K V E (StateData K V H W X F E)) 
       GivesAtOnce spec.eq spec.is_clone spec.is_infallible settings steps (BeginCompute key keep now) may_wait given))
       (spec.follows old (BeginCompute key keep now) new) old new result
 
-  -- A finish of a turn ends.
+  -- The open turn that a state has of a turn's kind and key.
+  abbrev pub open_of : Turn K → StateData K V H W X F E → Option (turning.Turn K V E)
+  open_of turn state = found (is_open_for spec.eq turn.key.kind (arc_value turn.key.key)) state.turns
+
+  -- The turn is open: the state has it, and it is open after each history.
+  pub record IsOpenTurn (turn : Turn K) (state : StateData K V H W X F E) : Type 0 where
+    pub stored : IsSomeAnd (open_of turn state) (λ t. t.name.number ≡ turn.number)
+    pub in_history : spec.at_each state (λ settings steps.
+        IsSomeAnd (found (is_open_as spec.eq (turn_name turn)) (turns steps)) (λ t. t.name.number ≡ turn.number))
+
+  -- That turn has this many unspent tickets.
+  abbrev pub IsAwaitedBy : Turn K → ℕ → StateData K V H W X F E → Type 0
+  IsAwaitedBy turn waiting state = IfSome (open_of turn state) (λ t. t.unspent ≡ waiting)
+
+  -- No turn of this name is open after any history.
+  abbrev pub IsUnknown : Name K → StateData K V H W X F E → Type 0
+  IsUnknown name state = spec.at_each state (λ settings steps. found (is_open_as spec.eq name) (turns steps) ≡ None)
+
+  -- A finish of the turn of this name ends.
+  abbrev pub FinishesNamed : Name K → Outcome V (Arc E Global) → ℕ → StateData K V H W X F E → StateData K V H W X F E →
+      Result (Finished K V E) (FinishRefused K V E) → Type 0
+  FinishesNamed name outcome now old new result =
+      FinishEnds spec.is_clone (λ given. spec.at_each old (λ settings steps.
+      Gives spec.eq spec.is_clone spec.is_infallible settings steps (Finish name (outcome_of outcome) now) given))
+      (spec.follows old (Finish name (outcome_of outcome) now) new) old new name outcome result
+
+  -- The same for a turn.
   abbrev pub FinishesTurn : Turn K → Outcome V (Arc E Global) → ℕ → StateData K V H W X F E → StateData K V H W X F E →
       Result (Finished K V E) (FinishRefused K V E) → Type 0
-  FinishesTurn turn outcome now old new result =
-      FinishEnds spec.is_clone (λ given. spec.at_each old (λ settings steps.
-      Gives spec.eq spec.is_clone spec.is_infallible settings steps (Finish (turn_name turn) (outcome_of outcome) now) given))
-      (spec.follows old (Finish (turn_name turn) (outcome_of outcome) now) new) old new turn outcome result
+  FinishesTurn turn = FinishesNamed (turn_name turn)
 
   -- An `or_insert` or an `or_default` ends. `as_reply` makes its result a reply of the specification.
   abbrev pub OrInserts : {Q : Type 0} → (Result (Entry K V) Q → Result (calls.Reply K V E) Refused) → K → V → ℕ →

@@ -11,7 +11,7 @@ use Rattle.moka_model.specs.declared.turns.Op.{Op}
 use Rattle.moka_model.specs.declared.turns.Op.TheVariants as ops
 use Rattle.moka_model.specs.declared.comp_result.CompResult.{CompResult}
 use Rattle.moka_model.specs.declared.comp_result.CompResult.TheVariants as results
-use Rattle.moka_model.specs.Turns.{fits}
+use Rattle.moka_model.specs.Turns.{Name, fits}
 use Rattle.moka_model.specs.Calls as calls
 use Rattle.moka_model.specs.Entries.{entry_of}
 use Rattle.moka_expiration.specs.StateData.{StateData}
@@ -74,14 +74,14 @@ IsFinished is_clone key (outcomes.Op op) (finishes.Computed result) = IsComputed
 IsFinished is_clone key outcome (finishes.Computed result) = ⊥
 
 -- A finish ends as `gives` says, and leaves the settings as they were. If it succeeds, `follows` holds, and the result is the
--- outcome. If it fails, nothing has changed, and the turn and the outcome come back.
+-- outcome. If it fails, nothing has changed, and the turn, which has this name, and the outcome come back.
 pub record FinishEnds {K V H W X F E : Type 0} (is_clone : V → V → Type 0) (gives : Result (calls.Reply K V E) Refused → Type 0)
-    (follows : Type 0) (old new : StateData K V H W X F E) (turn : Turn K) (outcome : Outcome V (Arc E Global))
+    (follows : Type 0) (old new : StateData K V H W X F E) (name : Name K) (outcome : Outcome V (Arc E Global))
     (result : Result (Finished K V E) (FinishRefused K V E)) : Type 0 where
   pub reply : gives (of_finish result)
   pub stands : OnOk result follows
-  pub given : IfOk result (IsFinished is_clone (arc_value turn.key.key) outcome)
+  pub given : IfOk result (IsFinished is_clone name.key outcome)
   pub refused : OnErr result (new ≡ old)
-  pub turn_back : IfErr result (λ refused. turn_name refused.turn ≡ turn_name turn)
+  pub turn_back : IfErr result (λ refused. turn_name refused.turn ≡ name)
   pub outcome_back : IfErr result (λ refused. refused.outcome ≡ outcome)
   pub settings : new.settings ≡ old.settings

@@ -44,12 +44,6 @@ module _ {K V E : Type 0} where
   IsOptional (Err cause) (Err refused) = refused ≡ cause
   IsOptional reply result = ⊥
 
-  -- The end of a turn with an error returns the error in an `Arc`, or the cause of the failure.
-  abbrev pub IsFailed : Result (calls.Reply K V E) Refused → Result (Arc E Global) Refused → Type 0
-  IsFailed (Ok (GaveError error)) (Ok shared) = arc_value shared ≡ error
-  IsFailed (Err cause) (Err refused) = refused ≡ cause
-  IsFailed reply result = ⊥
-
   -- A loader returns the value of the entry, or the error in an `Arc`, or the cause of the failure.
   abbrev pub IsTried : Result (calls.Reply K V E) Refused → Result (Result V (Arc E Global)) Refused → Type 0
   IsTried (Ok (Entered entry)) (Ok (Ok value)) = value ≡ entry.value

@@ -26,8 +26,8 @@ use Rattle.moka_state.specs.declared.answers.Collected.TheVariants as collects
 use Rattle.moka_state.specs.declared.answers.Finished.{Finished}
 use Rattle.moka_state.specs.declared.answers.Finished.TheVariants as finishes
 use Rattle.moka_state.specs.declared.answers.FinishRefused.{FinishRefused}
-use Rattle.moka_state.specs.declared.answers.Begun.{Begun}
-use Rattle.moka_state.specs.declared.answers.Begun.TheVariants as begins
+use Rattle.moka_state.specs.BegunOf.{BegunOf}
+use Rattle.moka_single_flight.specs.declared.replies.Begun.TheVariants as begins
 use Rattle.moka_state.specs.declared.answers.BegunCompute.{BegunCompute}
 use Rattle.moka_state.specs.declared.answers.BegunCompute.TheVariants as computes
 
@@ -86,13 +86,13 @@ module _ {K V E : Type 0} where
   of_finish (Err refused) = Err refused.cause
 
   -- What a successful begin returns.
-  abbrev pub of_begun : Begun K V → calls.Reply K V E
+  abbrev pub of_begun : BegunOf K V → calls.Reply K V E
   of_begun (begins.Found entry) = Entered (entry_of entry)
   of_begun (begins.Run turn) = Run (turn_name turn) Option.None
   of_begun (begins.Wait ticket) = Wait (ticket_name ticket)
 
   -- The result of a begin.
-  abbrev pub of_begin : Result (Begun K V) Refused → Result (calls.Reply K V E) Refused
+  abbrev pub of_begin : Result (BegunOf K V) Refused → Result (calls.Reply K V E) Refused
   of_begin (Ok begun) = Ok (of_begun begun)
   of_begin (Err cause) = Err cause
 

@@ -36,6 +36,24 @@ module _ {K V C H W X P F L T E S : Type 0} where
   WantsMemory (PredicateRefused predicates.OutOfMemory) = ⊤
   WantsMemory reply = ⊥
 
+  abbrev pub IsOfKey : Step K V C H W X P F L T E S → Type 0  -- The step looks up, writes or removes a key, without a turn.
+  IsOfKey (Get key now) = ⊤
+  IsOfKey (ContainsKey key now) = ⊤
+  IsOfKey (Insert key value now) = ⊤
+  IsOfKey (OrInsert key value now) = ⊤
+  IsOfKey (Invalidate key now) = ⊤
+  IsOfKey (Remove key now) = ⊤
+  IsOfKey step = ⊥
+
+  abbrev pub IsOfTurn : Step K V C H W X P F L T E S → Type 0  -- The step is a begin, or names a turn or a ticket.
+  IsOfTurn (Begin key kind replace now) = ⊤
+  IsOfTurn (BeginCompute key keep now) = ⊤
+  IsOfTurn (Finish name outcome now) = ⊤
+  IsOfTurn (Abandon name) = ⊤
+  IsOfTurn (Collect name) = ⊤
+  IsOfTurn (Leave name) = ⊤
+  IsOfTurn step = ⊥
+
 module _ {V : Type 0} (is_clone : V → V → Type 0) where
   -- The second outcome is a clone of the first: it has a clone of the value, and the same error.
   abbrev pub IsOutcomeCopy : {E : Type 0} → Outcome V (Arc E Global) → Outcome V (Arc E Global) → Type 0

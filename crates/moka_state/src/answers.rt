@@ -1,11 +1,13 @@
 //! The results of the calls of turns, and the errors that hand their arguments back.
-ghost use Rattle.std.specs.Prelude.{◌≡◌};
+ghost use Rattle.std.specs.Prelude.{◌≡◌, false, true, IfOk};
 ghost use Rattle.std.specs.Arc.{arc_value};
 ghost use Rattle.moka_model.specs.Turns.{Name};
 ghost use Rattle.moka_model.specs.Calls.{reply_by};
 ghost use Rattle.moka_turns.specs.Handles.{ticket_name};
 ghost use Rattle.moka_turns.specs.Represents.{end_of};
 ghost use Rattle.moka_turns.specs.CollectState.{IfEnded, IfNotYet};
+ghost use Rattle.moka_state.specs.Begin.{IfWait};
+ghost use Rattle.moka_state.specs.BegunOf.{as_begin};
 ghost use Rattle.moka_state.specs.Given.{IfUnspent, collected_as, of_collected};
 
 use moka_deferred::deferred::Deferred;
@@ -13,20 +15,22 @@ use moka_model::comp_result::CompResult;
 use moka_model::entry::Entry;
 use moka_model::turns::Outcome;
 use moka_policy::policy::Refused;
+use moka_single_flight::replies;
 pub use moka_turns::handles::CollectRefused;
 use moka_turns::handles::{Ticket, Turn};
 use moka_turns::table::{CollectState, TurnEnd};
+use std::convert::Infallible;
 use std::sync::Arc;
 
 /// The result of a begin. It cannot be dropped: a turn has to be ended, and a ticket spent.
-pub enum Begun<K, V> {
-    /// An acceptable value is live, so that nothing has to be computed.
-    Found(Entry<K, V>),
-    /// The caller has to compute the value, and to end this turn.
-    Run(Turn<K>),
-    /// Another caller computes the value. This ticket is for the outcome.
-    Wait(Ticket<K>),
-}
+///
+/// - `Found`: an acceptable value is live, so that nothing has to be computed.
+/// - `Run`: the caller has to compute the value, and to end this turn.
+/// - `Wait`: another caller computes the value. This ticket is for the outcome.
+pub type Begun<K, V> = replies::Begun<Entry<K, V>, Turn<K>, Ticket<K>>;
+
+/// The result of a begin that never waits: there can be no ticket.
+pub(crate) type BegunNow<K, V> = replies::Begun<Entry<K, V>, Turn<K>, Infallible>;
 
 /// The result of the begin of a compute. It cannot be dropped: a turn has to be ended, and a ticket
 /// spent.
@@ -36,6 +40,14 @@ pub enum BegunCompute<K, V> {
     Run(Turn<K>, Option<Entry<K, V>>),
     /// Another caller computes. This ticket is for the end of that.
     Wait(Ticket<K>),
+}
+
+/// The turn of a compute, with the live entry, if there is one.
+pub struct ShownTurn<K, V> {
+    /// The turn, to be ended by the caller.
+    pub turn: Turn<K>,
+    /// The live entry that the begin of the compute found.
+    pub shown: Option<Entry<K, V>>,
 }
 
 /// The outcome of a loader's turn.
@@ -78,6 +90,21 @@ pub struct FinishRefused<K, V, E> {
     pub outcome: Outcome<V, Arc<E>>,
     /// Why the call failed.
     pub cause: Refused,
+}
+
+/// Converts the result of a begin that may not wait, and so has no ticket.
+pub(crate) fn into_begun_now<K, V>(
+    begun: Result<Begun<K, V>, Refused>,
+) -> Result<BegunNow<K, V>, Refused>
+    requires { IfOk begun (IfWait (false ≡ true)) }
+    ensures { begun ≡ as_begin result }
+{
+    match begun {
+        Ok(Begun::Found(entry)) => Ok(BegunNow::Found(entry)),
+        Ok(Begun::Run(turn)) => Ok(BegunNow::Run(turn)),
+        Ok(Begun::Wait(_ticket)) => unreachable!(),
+        Err(cause) => Err(cause),
+    }
 }
 
 // Returns what a ticket gets from the end of its turn. An entry has the ticket's key, which is discarded

@@ -1,11 +1,11 @@
 //! Calls that take the hash of their key, for callers that know it already: for example from
 //! choosing one of several states.
-ghost use Rattle.std.specs.Prelude.{◌≡◌, ◌≢◌, ◌≤◌, false, None, IfOk, IfSome};
+ghost use Rattle.std.specs.Prelude.{◌≡◌, ◌≢◌, ◌≤◌, if◌then◌else◌, false, None, IfOk, IfSome};
 ghost use Rattle.moka_model.specs.Numbers.{greatest_number, stores_nothing};
 ghost use Rattle.moka_model.specs.Calls.{Get, ContainsKey, Insert, Invalidate, Remove, Contains};
 ghost use Rattle.moka_state.specs.Hashes.{IsHashOf};
 ghost use Rattle.moka_state.specs.Write.{WriteEnds};
-ghost use Rattle.moka_state.specs.Ends.{ReadsLive};
+ghost use Rattle.moka_state.specs.Ends.{Commits, ReadsLive, Replaces};
 
 use crate::call_view::CallView;
 use crate::state::{InsertRefused, State};
@@ -17,6 +17,15 @@ use moka_rows::rows::RowStore;
 use moka_table::into_arc::{IntoArc, Owned};
 use moka_table::write_slot::NewValue;
 use std::hash::Hash;
+
+// Notes a lookup of a key with this hash, if `is_noted`.
+fn note_if<F: FrequencySource>(source: &mut F, hash: u64, is_noted: bool)
+    ensures { source.new ≡ (if is_noted then F.noted source.old hash else source.old) }
+{
+    if is_noted {
+        source.note(hash);
+    }
+}
 
 impl<K: Hash + Drop, V: Clone, C: CacheTypes<K, V>, R: RowStore<K, V>> State<K, V, C, R> {
     /// Returns the hash of `key` by the cache's hasher, as the calls that take a hash want it.
@@ -49,29 +58,16 @@ impl<K: Hash + Drop, V: Clone, C: CacheTypes<K, V>, R: RowStore<K, V>> State<K, 
         ensures settings { self.new.settings ≡ self.old.settings }
     {
         let now = self.latest.max(now);
-        let Some(number) = self.table.find(key, hash) else {
+        let Some(number) = self.table.find_live(key, hash, now) else {
             self.housekeeper.source.note(hash);
             self.latest = now;
             return Ok(None);
         };
-        let row = self.table.row(number);
-        let info = row.info();
-        if info.is_dead(now) {
-            self.housekeeper.source.note(hash);
-            self.latest = now;
-            return Ok(None);
-        }
-        let Ok(value) = row.value.clone() else {
+        let Ok(value) = self.table.row(number).value.clone() else {
             return Err(Refused::OutOfMemory);
         };
-        let own_life = self.behaviour.life_of_hit(&row.key, &row.value, info, now);
-        let last_accessed = info.last_accessed.max(now);
-        let touch = self
-            .housekeeper
-            .lives
-            .touch_of(info, last_accessed, own_life);
-        self.table.touch(number, touch);
-        self.housekeeper.source.note(hash);
+        self.housekeeper
+            .hit(&mut self.table, number, hash, now, &self.behaviour);
         self.latest = now;
         Ok(Some(value))
     }
@@ -105,7 +101,7 @@ impl<K: Hash + Drop, V: Clone, C: CacheTypes<K, V>, R: RowStore<K, V>> State<K, 
         ensures settings { self.new.settings ≡ self.old.settings }
     {
         match self.write(Owned(key), hash, value, now) {
-            Ok(()) => Ok(()),
+            Ok(_) => Ok(()),
             Err(InsertRefused { key, value, cause }) => Err(InsertRefused {
                 key: key.0,
                 value,
@@ -115,59 +111,67 @@ impl<K: Hash + Drop, V: Clone, C: CacheTypes<K, V>, R: RowStore<K, V>> State<K, 
     }
 
     // Writes a value under a key that is in an `Arc` already, or moves into one, given the key's
-    // hash.
+    // hash. Returns whether it replaced a live value.
     pub(crate) fn write<S: IntoArc<K>>(
         &mut self,
         key: S,
         hash: u64,
         value: V,
         now: u64,
-    ) -> Result<(), InsertRefused<S, V>>
+    ) -> Result<bool, InsertRefused<S, V>>
         requires hash { IsHashOf (⟦<C as StateView<K, V>>⟧.settings self.old.settings)
             (S.key_of key) hash }
         requires kept { C.keeps (S.key_of key) value }
         ensures ends { WriteEnds
             (⟦<C as StateView<K, V>>⟧.follows self.old (Insert (S.key_of key) value now) self.new)
             self.old self.new key value result }
+        ensures replaces { IfOk result
+            (Replaces ⟦<C as CallView<K, V>>⟧.spec (S.key_of key) now self.old) }
+        ensures turns { self.new.turns ≡ self.old.turns }
         ensures settings { self.new.settings ≡ self.old.settings }
     {
         if self.housekeeper.max_capacity == Some(0) {
             self.latest = self.latest.max(now);
             self.table.discard_key(key.into_unused());
             self.discards.value.discard(value);
-            return Ok(());
+            return Ok(false);
         }
         if self.next_number == u64::MAX {
             let cause = Refused::NumbersUsedUp;
             return Err(InsertRefused { key, value, cause });
         }
-        self.write_anew(key, hash, value, now)
+        self.commit(key, hash, value, now, false)
     }
 
-    // Does a write that draws a sequence number. The weigher gets the call's key, before anything
-    // changes.
-    fn write_anew<S: IntoArc<K>>(
+    // Does a write that draws a sequence number, and returns whether it replaced a live value. If
+    // `is_noted`, it notes a lookup that found no live value first, since a flush counts on it.
+    // The weigher gets the call's key, before anything changes.
+    pub(crate) fn commit<S: IntoArc<K>>(
         &mut self,
         key: S,
         hash: u64,
         value: V,
         now: u64,
-    ) -> Result<(), InsertRefused<S, V>>
+        is_noted: bool,
+    ) -> Result<bool, InsertRefused<S, V>>
         requires hash { IsHashOf (⟦<C as StateView<K, V>>⟧.settings self.old.settings)
             (S.key_of key) hash }
         requires kept { C.keeps (S.key_of key) value }
         requires stores { stores_nothing self.old.settings.max_capacity ≡ false }
         requires number { self.old.books.next_number ≢ greatest_number }
         ensures ends { WriteEnds
-            (⟦<C as StateView<K, V>>⟧.follows self.old (Insert (S.key_of key) value now) self.new)
-            self.old self.new key value result }
+            (Commits ⟦<C as CallView<K, V>>⟧.spec is_noted (S.key_of key) value now self.old
+            self.new) self.old self.new key value result }
+        ensures replaces { is_noted ≡ false → IfOk result
+            (Replaces ⟦<C as CallView<K, V>>⟧.spec (S.key_of key) now self.old) }
+        ensures turns { self.new.turns ≡ self.old.turns }
         ensures settings { self.new.settings ≡ self.old.settings }
     {
         let now = self.latest.max(now);
         let cause = Refused::OutOfMemory;
         let weight = self.behaviour.weight(key.key(), &value);
-        let place = match self.table.plan_write(key, hash, self.alloc) {
-            Ok(place) => place,
+        let plan = match self.table.plan_write(key, hash, self.alloc) {
+            Ok(plan) => plan,
             Err(key) => return Err(InsertRefused { key, value, cause }),
         };
         let new = NewValue {
@@ -176,16 +180,17 @@ impl<K: Hash + Drop, V: Clone, C: CacheTypes<K, V>, R: RowStore<K, V>> State<K, 
             weight,
             now,
         };
-        self.housekeeper.write(
+        note_if(&mut self.housekeeper.source, hash, is_noted);
+        let is_replaced = self.housekeeper.write(
             &mut self.table,
-            place,
+            plan,
             new,
             &self.behaviour,
             self.flush_limit,
         );
         self.latest = now;
         self.next_number += 1;
-        Ok(())
+        Ok(is_replaced)
     }
 
     /// Works like [`State::contains_key`], given the key's hash, as [`State::hash`] returns it. The
@@ -200,10 +205,7 @@ impl<K: Hash + Drop, V: Clone, C: CacheTypes<K, V>, R: RowStore<K, V>> State<K, 
             (ContainsKey key.now now) self.now }
     {
         let now = self.latest.max(now);
-        match self.table.find(key, hash) {
-            None => false,
-            Some(number) => !self.table.row(number).info().is_dead(now),
-        }
+        self.table.find_live(key, hash, now).is_some()
     }
 
     /// Works like [`State::invalidate`], given the key's hash, as [`State::hash`] returns it. The

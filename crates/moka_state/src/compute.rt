@@ -1,17 +1,15 @@
 //! Computes: one caller reads the live value of a key, and decides what is done with it.
-ghost use Rattle.std.specs.Prelude.{◌≡◌, true, false, Some, None, if◌then◌else◌, IfOk};
+ghost use Rattle.std.specs.Prelude.{◌≡◌, true, Some, None, if◌then◌else◌, IfOk};
 ghost use Rattle.std.specs.Arc.{arc_value};
 ghost use Rattle.moka_model.specs.Calls.{IsCopyOf};
-ghost use Rattle.moka_model.specs.Numbers.{stores_nothing};
 ghost use Rattle.moka_table.specs.Table.{entries};
 ghost use Rattle.moka_state.specs.Compute.{IfWaits, IsCompute, IsLeft, IsPut, IsRemoved, IsShown, ShownKeeps, ShownKeepsFor};
 ghost use Rattle.moka_state.specs.Finish.{Fits, OutcomeKeeps};
 ghost use Rattle.moka_state.specs.Hashes.{IsHashOf};
-ghost use Rattle.moka_state.specs.Ends.{BeginsCompute, BeginsComputeAtOnce, FinishesTurn};
+ghost use Rattle.moka_state.specs.Ends.{BeginsCompute, BeginsComputeAtOnce, FinishesTurn, IsOpenTurn};
 
 use crate::answers::{BegunCompute, FinishRefused, Finished};
 use crate::call_view::CallView;
-use crate::finish::plan_for;
 use crate::state::State;
 use moka_deferred::deferred::Deferred;
 use moka_expiration::live_value::copy_of_live;
@@ -23,7 +21,6 @@ use moka_model::turns::{Kind, Op, Outcome};
 use moka_policy::policy::{CacheTypes, FrequencySource, Refused};
 use moka_rows::rows::RowStore;
 use moka_table::table::Table;
-use moka_table::write_slot::NewValue;
 use moka_turns::handles::Turn;
 use moka_turns::turn_key::TurnKey;
 use std::alloc::AllocError;
@@ -65,15 +62,11 @@ fn find_live<K: Eq + Drop, V: Clone, R: RowStore<K, V>>(
     ensures { IfOk result
         (IsShown K.eq V.is_clone keep key.now hash now (entries table.now)) }
 {
-    let Some(number) = table.find(key, hash) else {
+    let Some(number) = table.find_live(key, hash, now) else {
         return Ok(None);
     };
-    let row = table.row(number);
-    if row.info().is_dead(now) {
-        return Ok(None);
-    }
     let entry = table.entry(number)?;
-    match clone_if(&row.value, keep) {
+    match clone_if(&table.row(number).value, keep) {
         Ok(saved) => Ok(Some(Shown {
             number,
             entry,
@@ -240,9 +233,14 @@ impl<K: Hash + Drop, V: Clone, C: CacheTypes<K, V>, R: RowStore<K, V>> State<K, 
     pub(crate) fn finish_op(
         &mut self,
         turn: Turn<K>,
+        hash: u64,
         op: Op<V>,
         now: u64,
     ) -> Result<Finished<K, V, C::Error>, FinishRefused<K, V, C::Error>>
+        requires hash { IsHashOf (⟦<C as StateView<K, V>>⟧.settings self.old.settings)
+            (arc_value turn.key.key) turn.key.hash }
+        requires found { hash ≡ turn.key.hash }
+        requires is_open { IsOpenTurn ⟦<C as CallView<K, V>>⟧.spec turn self.old }
         requires fits { Fits C.Error turn.key.kind (Outcome.Op op) }
         requires kept { OutcomeKeeps {E = C.Error} (C.keeps (arc_value turn.key.key))
             (Outcome.Op op) }
@@ -250,8 +248,8 @@ impl<K: Hash + Drop, V: Clone, C: CacheTypes<K, V>, R: RowStore<K, V>> State<K, 
             self.new result }
     {
         match op {
-            Op::Put(value) => self.finish_put(turn, value, now),
-            Op::Remove => self.finish_remove(turn, now),
+            Op::Put(value) => self.finish_put(turn, hash, value, now),
+            Op::Remove => self.finish_remove(turn, hash, now),
             Op::Nop => self.finish_nop(turn, now),
         }
     }
@@ -262,15 +260,13 @@ impl<K: Hash + Drop, V: Clone, C: CacheTypes<K, V>, R: RowStore<K, V>> State<K, 
         turn: Turn<K>,
         now: u64,
     ) -> Result<Finished<K, V, C::Error>, FinishRefused<K, V, C::Error>>
-        requires { Fits {V = V} C.Error turn.key.kind (Outcome.Op Op.Nop) }
+        requires hash { IsHashOf (⟦<C as StateView<K, V>>⟧.settings self.old.settings)
+            (arc_value turn.key.key) turn.key.hash }
+        requires is_open { IsOpenTurn ⟦<C as CallView<K, V>>⟧.spec turn self.old }
+        requires fits { Fits {V = V} C.Error turn.key.kind (Outcome.Op Op.Nop) }
         ensures { FinishesTurn ⟦<C as CallView<K, V>>⟧.spec turn (Outcome.Op Op.Nop) now self.old
             self.new result }
     {
-        let hash = self.behaviour.hash(turn.key());
-        let turn = turn.with_hash(hash);
-        let Some(_) = self.turns.waiting_for(&turn) else {
-            return Err(refusal(turn, Op::Nop, Refused::UnknownTurn));
-        };
         let (key, open) = self.turns.finish_computed(turn);
         self.latest = self.latest.max(now);
         Ok(Finished::Computed(unchanged_result(key, open.saved)))
@@ -280,17 +276,17 @@ impl<K: Hash + Drop, V: Clone, C: CacheTypes<K, V>, R: RowStore<K, V>> State<K, 
     fn finish_remove(
         &mut self,
         turn: Turn<K>,
+        hash: u64,
         now: u64,
     ) -> Result<Finished<K, V, C::Error>, FinishRefused<K, V, C::Error>>
-        requires { Fits {V = V} C.Error turn.key.kind (Outcome.Op Op.Remove) }
+        requires hash { IsHashOf (⟦<C as StateView<K, V>>⟧.settings self.old.settings)
+            (arc_value turn.key.key) turn.key.hash }
+        requires found { hash ≡ turn.key.hash }
+        requires is_open { IsOpenTurn ⟦<C as CallView<K, V>>⟧.spec turn self.old }
+        requires fits { Fits {V = V} C.Error turn.key.kind (Outcome.Op Op.Remove) }
         ensures { FinishesTurn ⟦<C as CallView<K, V>>⟧.spec turn (Outcome.Op Op.Remove) now self.old
             self.new result }
     {
-        let hash = self.behaviour.hash(turn.key());
-        let turn = turn.with_hash(hash);
-        let Some(_) = self.turns.waiting_for(&turn) else {
-            return Err(refusal(turn, Op::Remove, Refused::UnknownTurn));
-        };
         let now = self.latest.max(now);
         let Some(number) = self.table.find(turn.key(), hash) else {
             let (key, open) = self.turns.finish_computed(turn);
@@ -304,106 +300,46 @@ impl<K: Hash + Drop, V: Clone, C: CacheTypes<K, V>, R: RowStore<K, V>> State<K, 
             return Err(refusal(turn, Op::Remove, Refused::OutOfMemory));
         };
         self.table.evict(number, cause);
-        let (key, open) = self.turns.finish_computed(turn);
-        self.turns.discards.opened.discard(open);
+        let (key, ended) = self.turns.finish_computed(turn);
+        self.turns.discards.opened.discard(ended);
         self.latest = now;
         Ok(Finished::Computed(removed_result(key, found)))
     }
 
-    // Ends a compute that puts a value.
+    // Ends a compute that puts a value. At a capacity of 0 the value is not stored.
     fn finish_put(
         &mut self,
         turn: Turn<K>,
+        hash: u64,
         value: V,
         now: u64,
     ) -> Result<Finished<K, V, C::Error>, FinishRefused<K, V, C::Error>>
+        requires hash { IsHashOf (⟦<C as StateView<K, V>>⟧.settings self.old.settings)
+            (arc_value turn.key.key) turn.key.hash }
+        requires found { hash ≡ turn.key.hash }
+        requires is_open { IsOpenTurn ⟦<C as CallView<K, V>>⟧.spec turn self.old }
         requires fits { Fits C.Error turn.key.kind (Outcome.Op (Op.Put value)) }
         requires kept { C.keeps (arc_value turn.key.key) value }
         ensures { FinishesTurn ⟦<C as CallView<K, V>>⟧.spec turn (Outcome.Op (Op.Put value)) now
             self.old self.new result }
     {
-        if self.housekeeper.max_capacity == Some(0) {
-            return self.put_unstored(turn, value, now);
-        }
-        self.put_stored(turn, value, now)
-    }
-
-    // Ends a compute that puts a value which is not stored, since the capacity is 0.
-    fn put_unstored(
-        &mut self,
-        turn: Turn<K>,
-        value: V,
-        now: u64,
-    ) -> Result<Finished<K, V, C::Error>, FinishRefused<K, V, C::Error>>
-        requires fits { Fits C.Error turn.key.kind (Outcome.Op (Op.Put value)) }
-        requires nothing { stores_nothing self.old.settings.max_capacity ≡ true }
-        ensures { FinishesTurn ⟦<C as CallView<K, V>>⟧.spec turn (Outcome.Op (Op.Put value)) now
-            self.old self.new result }
-    {
-        let hash = self.behaviour.hash(turn.key());
-        let turn = turn.with_hash(hash);
-        let Some(_) = self.turns.waiting_for(&turn) else {
-            return Err(refusal(turn, Op::Put(value), Refused::UnknownTurn));
-        };
-        let Ok(copy) = value.clone() else {
-            return Err(refusal(turn, Op::Put(value), Refused::OutOfMemory));
-        };
-        self.latest = self.latest.max(now);
-        self.discards.value.discard(value);
-        let (key, open) = self.turns.finish_computed(turn);
-        let was_shown = open.shown;
-        self.turns.discards.opened.discard(open);
-        Ok(Finished::Computed(put_result(key, copy, was_shown)))
-    }
-
-    // Ends a compute that puts a value which is stored.
-    fn put_stored(
-        &mut self,
-        turn: Turn<K>,
-        value: V,
-        now: u64,
-    ) -> Result<Finished<K, V, C::Error>, FinishRefused<K, V, C::Error>>
-        requires fits { Fits C.Error turn.key.kind (Outcome.Op (Op.Put value)) }
-        requires kept { C.keeps (arc_value turn.key.key) value }
-        requires stores { stores_nothing self.old.settings.max_capacity ≡ false }
-        ensures { FinishesTurn ⟦<C as CallView<K, V>>⟧.spec turn (Outcome.Op (Op.Put value)) now
-            self.old self.new result }
-    {
-        let hash = self.behaviour.hash(turn.key());
-        let turn = turn.with_hash(hash);
-        let Some(_) = self.turns.waiting_for(&turn) else {
-            return Err(refusal(turn, Op::Put(value), Refused::UnknownTurn));
-        };
-        if self.next_number == u64::MAX {
+        if self.wants_number() {
             return Err(refusal(turn, Op::Put(value), Refused::NumbersUsedUp));
         }
         let Ok(reply) = value.clone() else {
             return Err(refusal(turn, Op::Put(value), Refused::OutOfMemory));
         };
-        let weight = self.behaviour.weight(turn.key(), &value);
-        let Ok(place) = plan_for(&mut self.table, &turn, hash, self.alloc) else {
-            self.discards.reply.discard(reply);
-            return Err(refusal(turn, Op::Put(value), Refused::OutOfMemory));
-        };
-        let now = self.latest.max(now);
-        let new = NewValue {
-            hash,
-            value,
-            weight,
-            now,
-        };
-        self.housekeeper.write(
-            &mut self.table,
-            place,
-            new,
-            &self.behaviour,
-            self.flush_limit,
-        );
-        self.latest = now;
-        self.next_number += 1;
-        let (key, open) = self.turns.finish_computed(turn);
-        let was_shown = open.shown;
-        self.turns.discards.opened.discard(open);
-        Ok(Finished::Computed(put_result(key, reply, was_shown)))
+        match self.write_for(&turn, hash, value, now) {
+            Ok(_) => {
+                let (key, open) = self.turns.finish_computed(turn);
+                let was_shown = open.shown;
+                self.turns.discards.opened.discard(open);
+                Ok(Finished::Computed(put_result(key, reply, was_shown)))
+            }
+            Err(value) => {
+                self.discards.reply.discard(reply);
+                Err(refusal(turn, Op::Put(value), Refused::OutOfMemory))
+            }
+        }
     }
 }

@@ -4,12 +4,12 @@ ghost use Rattle.std.specs.Arc.{arc_value};
 ghost use Rattle.moka_model.specs.Entries.{entry_of};
 ghost use Rattle.moka_turns.specs.Handles.{turn_name};
 ghost use Rattle.moka_state.specs.Begin.{EntryKeeps};
-ghost use Rattle.moka_state.specs.Compute.{IfWaits, IsCompute, ShownKeepsFor};
+ghost use Rattle.moka_state.specs.Compute.{IfWaits, IsCompute, ShownKeepsFor, as_begun_compute};
 ghost use Rattle.moka_state.specs.ComputeForms.{IsErrorOf, IsUpserted, of_computing, of_trying, unless_failed};
 ghost use Rattle.moka_state.specs.Finish.{IsComputed, OutcomeKeeps};
 ghost use Rattle.moka_state.specs.Ends.{BeginsComputeAtOnce, Computes, EndsComputeAt, EndsTurnAs, EndsTurnAt, Tries, Upserts};
 
-use crate::answers::{BegunCompute, FinishRefused, Finished};
+use crate::answers::{BegunCompute, FinishRefused, Finished, ShownTurn};
 use crate::call_view::CallView;
 use crate::state::State;
 use moka_model::comp_result::CompResult;
@@ -19,6 +19,20 @@ use moka_policy::policy::{CacheTypes, Refused};
 use moka_rows::rows::RowStore;
 use moka_turns::handles::Turn;
 use std::hash::Hash;
+
+// Converts the result of the begin of a compute that may not wait, and so has no ticket.
+fn into_shown_turn<K, V>(
+    begun: Result<BegunCompute<K, V>, Refused>,
+) -> Result<ShownTurn<K, V>, Refused>
+    requires { IfOk begun (IfWaits (false ≡ true)) }
+    ensures { begun ≡ as_begun_compute result }
+{
+    match begun {
+        Ok(BegunCompute::Run(turn, shown)) => Ok(ShownTurn { turn, shown }),
+        Ok(BegunCompute::Wait(_ticket)) => unreachable!(),
+        Err(refused) => Err(refused),
+    }
+}
 
 impl<K: Hash + Drop, V: Clone, C: CacheTypes<K, V>, R: RowStore<K, V>> State<K, V, C, R> {
     // Runs `f` on the live entry of `key`, and does what it returns, in one turn. The begin saves a
@@ -38,14 +52,11 @@ impl<K: Hash + Drop, V: Clone, C: CacheTypes<K, V>, R: RowStore<K, V>> State<K, 
             self.new (of_computing result) }
         ensures settings { self.new.settings ≡ self.old.settings }
     {
-        let begun = match self.open_at_once(key, true, now) {
+        let ShownTurn { turn, shown } = match self.begin_compute_now(key, true, now) {
             Ok(begun) => begun,
             Err(cause) => return Err(cause),
         };
-        match begun {
-            BegunCompute::Run(turn, shown) => self.end_compute(turn, f(shown), now),
-            BegunCompute::Wait(_ticket) => unreachable!(),
-        }
+        self.end_compute(turn, f(shown), now)
     }
 
     // Works like `compute_with`, but always puts the value that `f` returns, and returns its entry.
@@ -65,14 +76,11 @@ impl<K: Hash + Drop, V: Clone, C: CacheTypes<K, V>, R: RowStore<K, V>> State<K, 
         ensures kept { IfOk result (λ entry. C.keeps key (entry_of entry).value) }
         ensures settings { self.new.settings ≡ self.old.settings }
     {
-        let begun = match self.open_at_once(key, false, now) {
+        let ShownTurn { turn, shown } = match self.begin_compute_now(key, false, now) {
             Ok(begun) => begun,
             Err(cause) => return Err(cause),
         };
-        match begun {
-            BegunCompute::Run(turn, shown) => self.end_with_put(turn, f(shown), now),
-            BegunCompute::Wait(_ticket) => unreachable!(),
-        }
+        self.end_with_put(turn, f(shown), now)
     }
 
     // Works like `compute_with`, for a closure that may fail: then the turn is abandoned.
@@ -88,28 +96,29 @@ impl<K: Hash + Drop, V: Clone, C: CacheTypes<K, V>, R: RowStore<K, V>> State<K, 
             (λ given. IsErrorOf given result) key true now self.old self.new (of_trying result) }
         ensures settings { self.new.settings ≡ self.old.settings }
     {
-        let begun = match self.open_at_once(key, true, now) {
+        let ShownTurn { turn, shown } = match self.begin_compute_now(key, true, now) {
             Ok(begun) => begun,
             Err(cause) => return Err(cause),
         };
-        match begun {
-            BegunCompute::Run(turn, shown) => self.end_tried_compute(turn, f(shown), now),
-            BegunCompute::Wait(_ticket) => unreachable!(),
-        }
+        self.end_tried_compute(turn, f(shown), now)
     }
 
     // Begins a compute without waiting: fails with `TurnIsOpen` if a compute of the key is open.
-    fn open_at_once(&mut self, key: K, keep: bool, now: u64) -> Result<BegunCompute<K, V>, Refused>
+    fn begin_compute_now(
+        &mut self,
+        key: K,
+        keep: bool,
+        now: u64,
+    ) -> Result<ShownTurn<K, V>, Refused>
         ensures begins { BeginsComputeAtOnce ⟦<C as CallView<K, V>>⟧.spec key keep now false
-            self.old self.new result }
-        ensures named { IfOk result (IsCompute key) }
-        ensures waits { IfOk result (IfWaits (false ≡ true)) }
-        ensures kept { IfOk result (ShownKeepsFor C.keeps key) }
+            self.old self.new (as_begun_compute result) }
+        ensures named { IfOk (as_begun_compute result) (IsCompute key) }
+        ensures kept { IfOk (as_begun_compute result) (ShownKeepsFor C.keeps key) }
         ensures settings { self.new.settings ≡ self.old.settings }
     {
         let hash = self.hash(&key);
         match self.share(key) {
-            Ok(shared) => self.begin_computing(shared, hash, keep, now, false),
+            Ok(shared) => into_shown_turn(self.begin_computing(shared, hash, keep, now, false)),
             Err(_) => Err(Refused::OutOfMemory),
         }
     }
@@ -129,7 +138,7 @@ impl<K: Hash + Drop, V: Clone, C: CacheTypes<K, V>, R: RowStore<K, V>> State<K, 
         ensures computed { IfOk result (IsComputed V.is_clone (arc_value turn.key.key) op) }
         ensures settings { self.new.settings ≡ self.old.settings }
     {
-        let refused = match self.finish_op(turn, op, now) {
+        let refused = match self.finish(turn, Outcome::Op(op), now) {
             Ok(Finished::Computed(computed)) => return Ok(computed),
             Ok(Finished::Answer(_)) => unreachable!(),
             Err(refused) => refused,

@@ -1,33 +1,31 @@
 //! The end of a turn with an outcome.
-ghost use Rattle.std.specs.Prelude.{◌≡◌, ◌<◌, true, false, option_map, IsSome, IfOk, OnOk, IfSome};
+ghost use Rattle.std.specs.Prelude.{◌≡◌, ◌<◌, option_map, IsSome, IfOk, IfErr, OnOk, OnErr, IfSome};
 ghost use Rattle.std.specs.Arc.{arc_value};
 ghost use Rattle.moka_model.specs.Turns as turning;
 ghost use Rattle.moka_model.specs.Turns.{Ended, moved};
-ghost use Rattle.moka_model.specs.Calls.{Entered, fresh_entry};
-ghost use Rattle.moka_model.specs.Numbers.{stores_nothing};
-ghost use Rattle.moka_table.specs.Table.{SameRows};
-ghost use Rattle.moka_table.specs.WriteSlot.{IsPlanOf};
+ghost use Rattle.moka_model.specs.Calls.{Entered, Insert, fresh_entry};
+ghost use Rattle.moka_turns.specs.Handles.{turn_name};
 ghost use Rattle.moka_turns.specs.Represents.{end_of};
 ghost use Rattle.moka_turns.specs.TurnTable.{open_at, AtEachChange};
 ghost use Rattle.moka_turns.specs.Open.{IsOpenFor};
 ghost use Rattle.moka_state.specs.Given.{of_answer};
 ghost use Rattle.moka_state.specs.Finish.{Fits, IsCopiesOf, OutcomeKeeps, outcome_of};
-ghost use Rattle.moka_state.specs.Ends.{FinishesTurn};
+ghost use Rattle.moka_state.specs.Hashes.{IsHashOf};
+ghost use Rattle.moka_state.specs.Ends.{FinishesTurn, IsAwaitedBy, IsOpenTurn, IsUnknown, Replaces};
 
 use crate::answers::{Answer, FinishRefused, Finished};
 use crate::call_view::CallView;
 use crate::compute::clone_if;
-use crate::state::State;
+use crate::state::{InsertRefused, State};
 use moka_deferred::deferred::Deferred;
+use moka_expiration::view::StateView;
 use moka_model::entry::Entry;
 use moka_model::turns::Outcome;
 use moka_policy::policy::{CacheTypes, Refused};
 use moka_rows::rows::RowStore;
-use moka_table::table::Table;
-use moka_table::write_slot::{NewValue, WritePlan};
 use moka_turns::handles::Turn;
 use moka_turns::table::{TurnEnd, TurnTable};
-use std::alloc::{AllocError, Global};
+use std::alloc::AllocError;
 use std::hash::Hash;
 use std::sync::Arc;
 
@@ -113,26 +111,6 @@ fn conclude<K: Eq + Drop, V: Clone, E: Drop>(
     Answer::Entry(Entry::new(key, reply, true, is_replaced))
 }
 
-// Makes room for a write of a turn's key, and returns the plan of it.
-pub(crate) fn plan_for<K: Eq + Drop, V: Drop, R: RowStore<K, V>>(
-    table: &mut Table<K, V, R>,
-    turn: &Turn<K>,
-    hash: u64,
-    alloc: Global,
-) -> Result<WritePlan<K>, AllocError>
-    ensures place { IfOk result
-        (IsPlanOf K.eq (arc_value turn.now.key.key) hash table.new) }
-    ensures room { OnOk result (0 < table.new.room) }
-    ensures same { SameRows table.old table.new }
-    ensures may_hide { table.new.may_hide ≡ table.old.may_hide }
-{
-    let key = turn.shared_key()?;
-    match table.plan_write(key, hash, alloc) {
-        Ok(place) => Ok(place),
-        Err(_) => Err(AllocError),
-    }
-}
-
 // Makes the error of a failed finish with a value.
 fn refusal<K, V, E>(turn: Turn<K>, value: V, cause: Refused) -> FinishRefused<K, V, E>
     ensures { result ≡ record { turn = turn; outcome = Outcome.Value value; cause = cause } }
@@ -145,98 +123,94 @@ fn refusal<K, V, E>(turn: Turn<K>, value: V, cause: Refused) -> FinishRefused<K,
 }
 
 impl<K: Hash + Drop, V: Clone, C: CacheTypes<K, V>, R: RowStore<K, V>> State<K, V, C, R> {
-    // Ends a turn with a value.
+    // Finds an open turn. Returns it with the hash of its key, that hash, and how many callers wait
+    // for it. Returns the turn alone if it is not open.
+    fn resume(&self, turn: Turn<K>) -> Result<(Turn<K>, u64, u64), Turn<K>>
+        ensures hash { IfOk result
+            (λ found. IsHashOf (⟦<C as StateView<K, V>>⟧.settings self.now.settings)
+            (arc_value found.0.key.key) found.0.key.hash) }
+        ensures found { IfOk result (λ found. found.1 ≡ found.0.key.hash) }
+        ensures name { IfOk result (λ found. turn_name found.0 ≡ turn_name turn) }
+        ensures is_open { IfOk result
+            (λ found. IsOpenTurn ⟦<C as CallView<K, V>>⟧.spec found.0 self.now) }
+        ensures awaited { IfOk result
+            (λ found. IsAwaitedBy ⟦<C as CallView<K, V>>⟧.spec found.0 found.2 self.now) }
+        ensures unknown { IfErr result (λ back. (turn_name back ≡ turn_name turn)
+            × IsUnknown ⟦<C as CallView<K, V>>⟧.spec (turn_name turn) self.now) }
+    {
+        let hash = self.hash(turn.key());
+        let turn = turn.with_hash(hash);
+        match self.turns.waiting_for(&turn) {
+            Some(waiting) => Ok((turn, hash, waiting)),
+            None => Err(turn),
+        }
+    }
+
+    // Writes a value under the key of a turn, and returns whether it replaced a live value. A
+    // failed write returns the value.
+    pub(crate) fn write_for(
+        &mut self,
+        turn: &Turn<K>,
+        hash: u64,
+        value: V,
+        now: u64,
+    ) -> Result<bool, V>
+        requires hash { IsHashOf (⟦<C as StateView<K, V>>⟧.settings self.old.settings)
+            (arc_value turn.now.key.key) hash }
+        requires kept { C.keeps (arc_value turn.now.key.key) value }
+        ensures stands { OnOk result (⟦<C as StateView<K, V>>⟧.follows
+            self.old (Insert (arc_value turn.now.key.key) value now) self.new) }
+        ensures replaces { IfOk result
+            (Replaces ⟦<C as CallView<K, V>>⟧.spec (arc_value turn.now.key.key) now self.old) }
+        ensures refused { OnErr result (self.new ≡ self.old) }
+        ensures value_back { IfErr result (λ back. back ≡ value) }
+        ensures turns { self.new.turns ≡ self.old.turns }
+        ensures settings { self.new.settings ≡ self.old.settings }
+    {
+        let Ok(key) = turn.shared_key() else {
+            return Err(value);
+        };
+        match self.write(key, hash, value, now) {
+            Ok(is_replaced) => Ok(is_replaced),
+            Err(InsertRefused { value, .. }) => Err(value),
+        }
+    }
+
+    // Ends a turn with a value. At a capacity of 0 the value is not stored.
     fn finish_with(
         &mut self,
         turn: Turn<K>,
+        hash: u64,
+        waiting: u64,
         value: V,
         now: u64,
     ) -> Result<Finished<K, V, C::Error>, FinishRefused<K, V, C::Error>>
+        requires hash { IsHashOf (⟦<C as StateView<K, V>>⟧.settings self.old.settings)
+            (arc_value turn.key.key) turn.key.hash }
+        requires found { hash ≡ turn.key.hash }
+        requires is_open { IsOpenTurn ⟦<C as CallView<K, V>>⟧.spec turn self.old }
+        requires awaited { IsAwaitedBy ⟦<C as CallView<K, V>>⟧.spec turn waiting self.old }
         requires fits { Fits C.Error turn.key.kind (Outcome.Value value) }
         requires kept { C.keeps (arc_value turn.key.key) value }
         ensures { FinishesTurn ⟦<C as CallView<K, V>>⟧.spec turn (Outcome.Value value) now self.old
             self.new result }
     {
-        if self.housekeeper.max_capacity == Some(0) {
-            return self.finish_unstored(turn, value, now);
-        }
-        self.finish_stored(turn, value, now)
-    }
-
-    // Ends a turn with a value that is not stored, since the capacity is 0.
-    fn finish_unstored(
-        &mut self,
-        turn: Turn<K>,
-        value: V,
-        now: u64,
-    ) -> Result<Finished<K, V, C::Error>, FinishRefused<K, V, C::Error>>
-        requires fits { Fits C.Error turn.key.kind (Outcome.Value value) }
-        requires kept { C.keeps (arc_value turn.key.key) value }
-        requires nothing { stores_nothing self.old.settings.max_capacity ≡ true }
-        ensures { FinishesTurn ⟦<C as CallView<K, V>>⟧.spec turn (Outcome.Value value) now self.old
-            self.new result }
-    {
-        let hash = self.behaviour.hash(turn.key());
-        let turn = turn.with_hash(hash);
-        let Some(waiting) = self.turns.waiting_for(&turn) else {
-            return Err(refusal(turn, value, Refused::UnknownTurn));
-        };
-        let Ok(copies) = Copies::new(&turn, &value, waiting, &mut self.discards.reply) else {
-            return Err(refusal(turn, value, Refused::OutOfMemory));
-        };
-        self.latest = self.latest.max(now);
-        self.discards.value.discard(value);
-        let answer = conclude(&mut self.turns, turn, copies, false);
-        Ok(Finished::Answer(answer))
-    }
-
-    // Ends a turn with a value that is stored.
-    fn finish_stored(
-        &mut self,
-        turn: Turn<K>,
-        value: V,
-        now: u64,
-    ) -> Result<Finished<K, V, C::Error>, FinishRefused<K, V, C::Error>>
-        requires fits { Fits C.Error turn.key.kind (Outcome.Value value) }
-        requires kept { C.keeps (arc_value turn.key.key) value }
-        requires stores { stores_nothing self.old.settings.max_capacity ≡ false }
-        ensures { FinishesTurn ⟦<C as CallView<K, V>>⟧.spec turn (Outcome.Value value) now self.old
-            self.new result }
-    {
-        let hash = self.behaviour.hash(turn.key());
-        let turn = turn.with_hash(hash);
-        let Some(waiting) = self.turns.waiting_for(&turn) else {
-            return Err(refusal(turn, value, Refused::UnknownTurn));
-        };
-        if self.next_number == u64::MAX {
+        if self.wants_number() {
             return Err(refusal(turn, value, Refused::NumbersUsedUp));
         }
         let Ok(copies) = Copies::new(&turn, &value, waiting, &mut self.discards.reply) else {
             return Err(refusal(turn, value, Refused::OutOfMemory));
         };
-        let weight = self.behaviour.weight(turn.key(), &value);
-        let Ok(place) = plan_for(&mut self.table, &turn, hash, self.alloc) else {
-            self.discards.copies.discard(copies);
-            return Err(refusal(turn, value, Refused::OutOfMemory));
-        };
-        let now = self.latest.max(now);
-        let new = NewValue {
-            hash,
-            value,
-            weight,
-            now,
-        };
-        let is_replaced = self.housekeeper.write(
-            &mut self.table,
-            place,
-            new,
-            &self.behaviour,
-            self.flush_limit,
-        );
-        self.latest = now;
-        self.next_number += 1;
-        let answer = conclude(&mut self.turns, turn, copies, is_replaced);
-        Ok(Finished::Answer(answer))
+        match self.write_for(&turn, hash, value, now) {
+            Ok(is_replaced) => {
+                let answer = conclude(&mut self.turns, turn, copies, is_replaced);
+                Ok(Finished::Answer(answer))
+            }
+            Err(value) => {
+                self.discards.copies.discard(copies);
+                Err(refusal(turn, value, Refused::OutOfMemory))
+            }
+        }
     }
 
     // Ends a turn without a value.
@@ -245,19 +219,13 @@ impl<K: Hash + Drop, V: Clone, C: CacheTypes<K, V>, R: RowStore<K, V>> State<K, 
         turn: Turn<K>,
         now: u64,
     ) -> Result<Finished<K, V, C::Error>, FinishRefused<K, V, C::Error>>
-        requires { Fits {V = V} C.Error turn.key.kind Outcome.Nothing }
+        requires hash { IsHashOf (⟦<C as StateView<K, V>>⟧.settings self.old.settings)
+            (arc_value turn.key.key) turn.key.hash }
+        requires is_open { IsOpenTurn ⟦<C as CallView<K, V>>⟧.spec turn self.old }
+        requires fits { Fits {V = V} C.Error turn.key.kind Outcome.Nothing }
         ensures { FinishesTurn ⟦<C as CallView<K, V>>⟧.spec turn Outcome.Nothing now self.old
             self.new result }
     {
-        let hash = self.behaviour.hash(turn.key());
-        let turn = turn.with_hash(hash);
-        let Some(_) = self.turns.waiting_for(&turn) else {
-            return Err(FinishRefused {
-                turn,
-                outcome: Outcome::Nothing,
-                cause: Refused::UnknownTurn,
-            });
-        };
         self.turns.finish(turn, Some(TurnEnd::Nothing));
         self.latest = self.latest.max(now);
         Ok(Finished::Answer(Answer::Nothing))
@@ -267,22 +235,18 @@ impl<K: Hash + Drop, V: Clone, C: CacheTypes<K, V>, R: RowStore<K, V>> State<K, 
     fn finish_failed(
         &mut self,
         turn: Turn<K>,
+        waiting: u64,
         error: Arc<C::Error>,
         now: u64,
     ) -> Result<Finished<K, V, C::Error>, FinishRefused<K, V, C::Error>>
-        requires { Fits {V = V} C.Error turn.key.kind (Outcome.Failed (arc_value error)) }
+        requires hash { IsHashOf (⟦<C as StateView<K, V>>⟧.settings self.old.settings)
+            (arc_value turn.key.key) turn.key.hash }
+        requires is_open { IsOpenTurn ⟦<C as CallView<K, V>>⟧.spec turn self.old }
+        requires awaited { IsAwaitedBy ⟦<C as CallView<K, V>>⟧.spec turn waiting self.old }
+        requires fits { Fits {V = V} C.Error turn.key.kind (Outcome.Failed (arc_value error)) }
         ensures { FinishesTurn ⟦<C as CallView<K, V>>⟧.spec turn (Outcome.Failed error) now self.old
             self.new result }
     {
-        let hash = self.behaviour.hash(turn.key());
-        let turn = turn.with_hash(hash);
-        let Some(waiting) = self.turns.waiting_for(&turn) else {
-            return Err(FinishRefused {
-                turn,
-                outcome: Outcome::Failed(error),
-                cause: Refused::UnknownTurn,
-            });
-        };
         let Ok(end) = failed_end(&error, waiting) else {
             return Err(FinishRefused {
                 turn,
@@ -331,11 +295,22 @@ impl<K: Hash + Drop, V: Clone, C: CacheTypes<K, V>, R: RowStore<K, V>> State<K, 
         ensures { FinishesTurn ⟦<C as CallView<K, V>>⟧.spec turn outcome now self.old self.new
             result }
     {
+        let (turn, hash, waiting) = match self.resume(turn) {
+            Ok(found) => found,
+            Err(turn) => {
+                let cause = Refused::UnknownTurn;
+                return Err(FinishRefused {
+                    turn,
+                    outcome,
+                    cause,
+                });
+            }
+        };
         match outcome {
-            Outcome::Value(value) => self.finish_with(turn, value, now),
+            Outcome::Value(value) => self.finish_with(turn, hash, waiting, value, now),
             Outcome::Nothing => self.finish_without(turn, now),
-            Outcome::Failed(error) => self.finish_failed(turn, error, now),
-            Outcome::Op(op) => self.finish_op(turn, op, now),
+            Outcome::Failed(error) => self.finish_failed(turn, waiting, error, now),
+            Outcome::Op(op) => self.finish_op(turn, hash, op, now),
         }
     }
 }

@@ -1,13 +1,14 @@
 //! Loaders of an owned cache: each is a begin, a closure and a finish at one moment.
-ghost use Rattle.std.specs.Prelude.{◌≡◌, ◌≢◌, Option, None, Some, Result, false, true, IfOk, IfSome};
+ghost use Rattle.std.specs.Prelude.{◌≡◌, ◌≢◌, Option, None, Some, Result, false, IfOk, IfSome};
 ghost use Rattle.std.specs.Arc.{arc_value};
 ghost use Rattle.moka_turns.specs.Handles.{turn_name};
-ghost use Rattle.moka_state.specs.Begin.{FoundKeepsFor, IfWait, IsNamed, IsSaidOf, TakesLive};
+ghost use Rattle.moka_state.specs.Begin.{FoundKeepsFor, IsNamed, IsSaidOf, TakesLive};
+ghost use Rattle.moka_state.specs.BegunOf.{as_begin};
 ghost use Rattle.moka_state.specs.Finish.{Fits, IsGiven, OutcomeKeeps, outcome_of};
-ghost use Rattle.moka_state.specs.Forms.{IsFailed, IsOptional, IsTried, IsValue, of_end, optional_outcome, tried_outcome};
-ghost use Rattle.moka_state.specs.Ends.{EndsOpenTurnAs, EndsTurnAs, EndsTurnAt, LoaderBegins, LoaderBeginsAs, Loads, LoadsIf};
+ghost use Rattle.moka_state.specs.Forms.{IsOptional, IsTried, IsValue, of_end, optional_outcome, tried_outcome};
+ghost use Rattle.moka_state.specs.Ends.{EndsTurnAt, LoaderBegins, LoaderBeginsAs, Loads, LoadsIf};
 
-use crate::answers::{Answer, Begun, FinishRefused, Finished};
+use crate::answers::{Answer, BegunNow, FinishRefused, Finished, into_begun_now};
 use crate::call_view::CallView;
 use crate::state::State;
 use moka_expiration::view::StateView;
@@ -60,14 +61,9 @@ impl<K: Hash + Drop, V: Clone, C: CacheTypes<K, V>, R: RowStore<K, V>> State<K, 
         ensures kept { IfOk result (C.keeps key) }
         ensures settings { self.new.settings ≡ self.old.settings }
     {
-        let begun = match self.begin_at_once(key, Kind::With, now) {
-            Ok(begun) => begun,
-            Err(cause) => return Err(cause),
-        };
-        match begun {
-            Begun::Found(entry) => Ok(entry.into_value()),
-            Begun::Run(turn) => self.end_with_value(turn, init(), now),
-            Begun::Wait(_ticket) => unreachable!(),
+        match self.load(key, init, now) {
+            Ok(entry) => Ok(entry.into_value()),
+            Err(cause) => Err(cause),
         }
     }
 
@@ -96,14 +92,9 @@ impl<K: Hash + Drop, V: Clone, C: CacheTypes<K, V>, R: RowStore<K, V>> State<K, 
         ensures kept { IfOk result (C.keeps key) }
         ensures settings { self.new.settings ≡ self.old.settings }
     {
-        let begun = match self.begin_at_once_if(key, Kind::With, Some(replace_if), now) {
-            Ok(begun) => begun,
-            Err(cause) => return Err(cause),
-        };
-        match begun {
-            Begun::Found(entry) => Ok(entry.into_value()),
-            Begun::Run(turn) => self.end_with_value(turn, init(), now),
-            Begun::Wait(_ticket) => unreachable!(),
+        match self.load_if(key, init, replace_if, now) {
+            Ok(entry) => Ok(entry.into_value()),
+            Err(cause) => Err(cause),
         }
     }
 
@@ -115,6 +106,7 @@ impl<K: Hash + Drop, V: Clone, C: CacheTypes<K, V>, R: RowStore<K, V>> State<K, 
     /// # Errors
     ///
     /// As [`State::get_with`], for turns of kind `Optionally`.
+    #[tactic(auto, using(crate::proofs::Loaders::optional_owes))]
     pub fn optionally_get_with<F: FnOnce() -> Option<V> + Drop>(
         &mut self,
         key: K,
@@ -128,14 +120,10 @@ impl<K: Hash + Drop, V: Clone, C: CacheTypes<K, V>, R: RowStore<K, V>> State<K, 
         ensures kept { IfOk result (λ found. IfSome found (C.keeps key)) }
         ensures settings { self.new.settings ≡ self.old.settings }
     {
-        let begun = match self.begin_at_once(key, Kind::Optionally, now) {
-            Ok(begun) => begun,
-            Err(cause) => return Err(cause),
-        };
-        match begun {
-            Begun::Found(entry) => Ok(Some(entry.into_value())),
-            Begun::Run(turn) => self.end_with_option(turn, init(), now),
-            Begun::Wait(_ticket) => unreachable!(),
+        match self.load(key, init, now) {
+            Ok(Some(entry)) => Ok(Some(entry.into_value())),
+            Ok(None) => Ok(None),
+            Err(cause) => Err(cause),
         }
     }
 
@@ -149,6 +137,7 @@ impl<K: Hash + Drop, V: Clone, C: CacheTypes<K, V>, R: RowStore<K, V>> State<K, 
     /// As [`State::get_with`], for turns of kind `Try`. Also:
     ///
     /// - `OutOfMemory`: the `Arc` of the error could not be allocated. The turn is abandoned.
+    #[tactic(auto, using(crate::proofs::Loaders::tried_owes))]
     pub fn try_get_with<F: FnOnce() -> Result<V, C::Error> + Drop>(
         &mut self,
         key: K,
@@ -162,63 +151,57 @@ impl<K: Hash + Drop, V: Clone, C: CacheTypes<K, V>, R: RowStore<K, V>> State<K, 
         ensures kept { IfOk result (λ tried. IfOk tried (C.keeps key)) }
         ensures settings { self.new.settings ≡ self.old.settings }
     {
-        let begun = match self.begin_at_once(key, Kind::Try, now) {
-            Ok(begun) => begun,
-            Err(cause) => return Err(cause),
-        };
-        match begun {
-            Begun::Found(entry) => Ok(Ok(entry.into_value())),
-            Begun::Run(turn) => self.end_with_result(turn, init(), now),
-            Begun::Wait(_ticket) => unreachable!(),
+        match self.load(key, init, now) {
+            Ok(Ok(entry)) => Ok(Ok(entry.into_value())),
+            Ok(Err(error)) => Ok(Err(error)),
+            Err(cause) => Err(cause),
         }
     }
 
     // Does the begin of a loader without waiting: fails with `TurnIsOpen` if a turn of the key and
     // the kind is open. The key moves into an `Arc` only if no acceptable value is live.
-    pub(crate) fn begin_at_once_if<F: FnMut(&V) -> bool + Drop>(
+    pub(crate) fn begin_now_if<F: FnMut(&V) -> bool + Drop>(
         &mut self,
         key: K,
         kind: Kind,
         replace_if: Option<F>,
         now: u64,
-    ) -> Result<Begun<K, V>, Refused>
+    ) -> Result<BegunNow<K, V>, Refused>
         requires initializer { kind ≢ Kind.Compute }
         requires asks { IfSome replace_if (TakesLive K.eq C.keeps
             ⟦<C as StateView<K, V>>⟧.settings F.FnMut key now self.old) }
         ensures begins { LoaderBegins ⟦<C as CallView<K, V>>⟧.spec (IsSaidOf F.FnMut replace_if) key
-            kind now false self.old self.new result }
-        ensures named { IfOk result (IsNamed kind key) }
-        ensures waits { IfOk result (IfWait (false ≡ true)) }
-        ensures kept { IfOk result (FoundKeepsFor C.keeps key) }
+            kind now false self.old self.new (as_begin result) }
+        ensures named { IfOk (as_begin result) (IsNamed kind key) }
+        ensures kept { IfOk (as_begin result) (FoundKeepsFor C.keeps key) }
         ensures settings { self.new.settings ≡ self.old.settings }
     {
         let hash = self.hash(&key);
         match self.acceptable_entry(&key, hash, replace_if, now) {
-            Ok(Some(entry)) => Ok(Begun::Found(entry)),
+            Ok(Some(entry)) => Ok(BegunNow::Found(entry)),
             Ok(None) => match self.share(key) {
-                Ok(shared) => self.begin_turn(shared, hash, kind, now, false),
+                Ok(shared) => into_begun_now(self.begin_turn(shared, hash, kind, now, false)),
                 Err(_) => Err(Refused::OutOfMemory),
             },
             Err(cause) => Err(cause),
         }
     }
 
-    // Does the begin of a loader that accepts any live value.
-    pub(crate) fn begin_at_once(
+    // Works like `begin_now_if`, and accepts any live value.
+    pub(crate) fn begin_now(
         &mut self,
         key: K,
         kind: Kind,
         now: u64,
-    ) -> Result<Begun<K, V>, Refused>
+    ) -> Result<BegunNow<K, V>, Refused>
         requires initializer { kind ≢ Kind.Compute }
         ensures begins { LoaderBeginsAs ⟦<C as CallView<K, V>>⟧.spec None key kind now false
-            self.old self.new result }
-        ensures named { IfOk result (IsNamed kind key) }
-        ensures waits { IfOk result (IfWait (false ≡ true)) }
-        ensures kept { IfOk result (FoundKeepsFor C.keeps key) }
+            self.old self.new (as_begin result) }
+        ensures named { IfOk (as_begin result) (IsNamed kind key) }
+        ensures kept { IfOk (as_begin result) (FoundKeepsFor C.keeps key) }
         ensures settings { self.new.settings ≡ self.old.settings }
     {
-        self.begin_at_once_if(key, kind, none_like(|_: &V| false), now)
+        self.begin_now_if(key, kind, none_like(|_: &V| false), now)
     }
 
     // Moves a value into an `Arc`.
@@ -259,111 +242,5 @@ impl<K: Hash + Drop, V: Clone, C: CacheTypes<K, V>, R: RowStore<K, V>> State<K, 
         } = refused;
         let _ = self.abandon(turn);
         Err(cause)
-    }
-
-    // Finishes a loader's turn with a value, and returns a clone of the value.
-    pub(crate) fn end_with_value(&mut self, turn: Turn<K>, value: V, now: u64) -> Result<V, Refused>
-        requires fits { Fits C.Error turn.key.kind (Outcome.Value value) }
-        requires initializer { turn.key.kind ≢ Kind.Compute }
-        requires kept { C.keeps (arc_value turn.key.key) value }
-        ensures ends { EndsTurnAs ⟦<C as CallView<K, V>>⟧.spec (turn_name turn)
-            (Outcome.Value value) now IsValue self.old self.new result }
-        ensures kept { IfOk result (C.keeps (arc_value turn.key.key)) }
-        ensures settings { self.new.settings ≡ self.old.settings }
-    {
-        match self.end_turn(turn, Outcome::Value(value), now) {
-            Ok(Answer::Entry(entry)) => Ok(entry.into_value()),
-            Ok(_) => unreachable!(),
-            Err(cause) => Err(cause),
-        }
-    }
-
-    // Finishes a loader's turn with a value or with nothing, and returns a clone of the value, if
-    // any.
-    pub(crate) fn end_with_option(
-        &mut self,
-        turn: Turn<K>,
-        given: Option<V>,
-        now: u64,
-    ) -> Result<Option<V>, Refused>
-        requires kind { turn.key.kind ≡ Kind.Optionally }
-        requires kept { IfSome given (C.keeps (arc_value turn.key.key)) }
-        ensures ends { EndsTurnAs ⟦<C as CallView<K, V>>⟧.spec (turn_name turn)
-            (optional_outcome given) now IsOptional self.old self.new result }
-        ensures kept { IfOk result (λ found. IfSome found (C.keeps (arc_value turn.key.key))) }
-        ensures settings { self.new.settings ≡ self.old.settings }
-    {
-        match given {
-            Some(value) => match self.end_with_value(turn, value, now) {
-                Ok(value) => Ok(Some(value)),
-                Err(cause) => Err(cause),
-            },
-            None => self.end_with_none(turn, now),
-        }
-    }
-
-    // Finishes a loader's turn with nothing, and returns `None`.
-    pub(crate) fn end_with_none(&mut self, turn: Turn<K>, now: u64) -> Result<Option<V>, Refused>
-        requires kind { turn.key.kind ≡ Kind.Optionally }
-        ensures ends { EndsTurnAs ⟦<C as CallView<K, V>>⟧.spec (turn_name turn) Outcome.Nothing now
-            IsOptional self.old self.new result }
-        ensures none { IfOk result (λ found. found ≡ None) }
-        ensures settings { self.new.settings ≡ self.old.settings }
-    {
-        let _answer = match self.end_turn(turn, Outcome::Nothing, now) {
-            Ok(answer) => answer,
-            Err(cause) => return Err(cause),
-        };
-        Ok(None)
-    }
-
-    // Finishes a loader's turn with an error, and returns it in an `Arc`. If the `Arc` cannot be
-    // allocated, abandons the turn. Clause `ends` describes the end of an open turn only.
-    pub(crate) fn end_with_error(
-        &mut self,
-        turn: Turn<K>,
-        error: C::Error,
-        now: u64,
-    ) -> Result<Arc<C::Error>, Refused>
-        requires kind { turn.key.kind ≡ Kind.Try }
-        ensures ends { EndsOpenTurnAs ⟦<C as CallView<K, V>>⟧.spec (turn_name turn)
-            (Outcome.Failed error) now IsFailed self.old self.new result }
-        ensures settings { self.new.settings ≡ self.old.settings }
-    {
-        let Ok(error) = self.share(error) else {
-            let _ = self.abandon(turn);
-            return Err(Refused::OutOfMemory);
-        };
-        match self.end_turn(turn, Outcome::Failed(error), now) {
-            Ok(Answer::Failed(error)) => Ok(error),
-            Ok(_) => unreachable!(),
-            Err(cause) => Err(cause),
-        }
-    }
-
-    // Finishes a loader's turn with a value or an error, as `end_with_value` and `end_with_error`.
-    pub(crate) fn end_with_result(
-        &mut self,
-        turn: Turn<K>,
-        given: Result<V, C::Error>,
-        now: u64,
-    ) -> Result<Result<V, Arc<C::Error>>, Refused>
-        requires kind { turn.key.kind ≡ Kind.Try }
-        requires kept { IfOk given (C.keeps (arc_value turn.key.key)) }
-        ensures ends { EndsOpenTurnAs ⟦<C as CallView<K, V>>⟧.spec (turn_name turn)
-            (tried_outcome given) now IsTried self.old self.new result }
-        ensures kept { IfOk result (λ tried. IfOk tried (C.keeps (arc_value turn.key.key))) }
-        ensures settings { self.new.settings ≡ self.old.settings }
-    {
-        match given {
-            Ok(value) => match self.end_with_value(turn, value, now) {
-                Ok(value) => Ok(Ok(value)),
-                Err(cause) => Err(cause),
-            },
-            Err(error) => match self.end_with_error(turn, error, now) {
-                Ok(error) => Ok(Err(error)),
-                Err(cause) => Err(cause),
-            },
-        }
     }
 }

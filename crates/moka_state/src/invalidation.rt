@@ -55,6 +55,7 @@ impl<K: Hash + Drop, V: Clone, C: CacheTypes<K, V>, R: RowStore<K, V>> State<K, 
         ensures refused { OnErr result (self.new ≡ self.old) }
         ensures undrawn { self.old.settings.supports_closures ≡ false →
             generator.new ≡ generator.old }
+        ensures settings { self.new.settings ≡ self.old.settings }
     {
         self.predicate_room()?; // If it fails, nothing is drawn.
         let Ok(id) = new_predicate_id(self.alloc(), generator) else {
@@ -111,6 +112,7 @@ impl<K: Hash + Drop, V: Clone, C: CacheTypes<K, V>, R: RowStore<K, V>> State<K, 
     /// [`State::invalidate_entries_if`]. Cannot fail, and does not allocate.
     ///
     /// Closures must be supported, which [`State::predicate_room`] checks.
+    #[doc(hidden)]
     pub fn hide_where(&mut self, predicate: &C::Predicate)
         requires tests { C.Predicate.tests predicate.now (C.test predicate.now) }
         requires supported { self.old.settings.supports_closures ≡ true }

@@ -16,6 +16,7 @@ pub mod finish;
 pub mod get_with;
 mod handed_out;
 pub mod invalidation;
+pub mod loader;
 pub mod or_insert;
 mod recorded;
 pub mod removal;

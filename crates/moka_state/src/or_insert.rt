@@ -11,14 +11,13 @@ ghost use Rattle.moka_state.specs.Ends.{IsAbsentAt, OrInserts};
 
 use crate::call_view::CallView;
 use crate::get_with::none_like;
-use crate::state::State;
+use crate::state::{InsertRefused, State};
 use moka_expiration::view::StateView;
 use moka_model::entry::Entry;
 use moka_policy::policy::{CacheTypes, FrequencySource, Refused};
 pub use moka_policy::refused::OrInsertRefused;
 use moka_rows::rows::RowStore;
 use moka_table::into_arc::UnusedKey;
-use moka_table::write_slot::NewValue;
 use std::alloc::AllocError;
 use std::hash::Hash;
 use std::sync::Arc;
@@ -183,7 +182,7 @@ impl<K: Hash + Drop, V: Clone, C: CacheTypes<K, V>, R: RowStore<K, V>> State<K, 
     }
 
     // Checks whether a write would draw a sequence number and none is left.
-    fn wants_number(&self) -> bool
+    pub(crate) fn wants_number(&self) -> bool
         ensures { result ≡ (not (stores_nothing self.now.settings.max_capacity)
             && (self.now.books.next_number == greatest_number)) }
     {
@@ -215,28 +214,10 @@ impl<K: Hash + Drop, V: Clone, C: CacheTypes<K, V>, R: RowStore<K, V>> State<K, 
         let Ok(share) = key.clone() else {
             return Err(OrInsertRefused { value, cause });
         };
-        let weight = self.behaviour.weight(&**key, &value);
-        let Ok(place) = self.table.plan_write(share, hash, self.alloc) else {
-            return Err(OrInsertRefused { value, cause });
-        };
-        let now = self.latest.max(now);
-        let new = NewValue {
-            hash,
-            value,
-            weight,
-            now,
-        };
-        self.housekeeper.source.note(new.hash);
-        self.housekeeper.write(
-            &mut self.table,
-            place,
-            new,
-            &self.behaviour,
-            self.flush_limit,
-        );
-        self.latest = now;
-        self.next_number += 1;
-        Ok(())
+        match self.commit(share, hash, value, now, true) {
+            Ok(_) => Ok(()),
+            Err(InsertRefused { value, .. }) => Err(OrInsertRefused { value, cause }),
+        }
     }
 }
 

@@ -52,6 +52,7 @@ impl<K: Hash + Drop, V: Clone, C: CacheTypes<K, V>, R: RowStore<K, V>> State<K, 
             ⟦<C as StateView<K, V>>⟧.view self.old self.new done.1) }
         ensures refused { OnErr result (self.new ≡ self.old) }
         ensures cause { IfErr result (λ cause. cause ≡ Refused.OutOfMemory) }
+        ensures settings { self.new.settings ≡ self.old.settings }
     {
         let Ok((first, second)) = self.prepare_twice(&step) else {
             drop(step);

@@ -28,6 +28,7 @@ impl<K: Hash + Drop, V: Clone, C: CacheTypes<K, V>, R: RowStore<K, V>> State<K, 
         ensures ends { ReadsLive ⟦<C as CallView<K, V>>⟧.spec Remove key.now now self.old self.new
             result }
         ensures kept { IfOk result (λ found. IfSome found (C.keeps key.now)) }
+        ensures settings { self.new.settings ≡ self.old.settings }
     {
         let hash = self.hash(key);
         self.remove_with_hash(key, hash, now)

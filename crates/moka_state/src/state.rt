@@ -211,6 +211,7 @@ impl<K: Hash + Drop, V: Clone, C: CacheTypes<K, V>, R: RowStore<K, V>> State<K, 
         ensures ends { ReadsLive ⟦<C as CallView<K, V>>⟧.spec Get key.now now self.old self.new
             result }
         ensures kept { IfOk result (λ found. IfSome found (C.keeps key.now)) }
+        ensures settings { self.new.settings ≡ self.old.settings }
     {
         let hash = self.hash(key);
         self.get_with_hash(key, hash, now)
@@ -245,9 +246,10 @@ impl<K: Hash + Drop, V: Clone, C: CacheTypes<K, V>, R: RowStore<K, V>> State<K, 
     /// ```
     pub fn insert(&mut self, key: K, value: V, now: u64) -> Result<(), InsertRefused<K, V>>
         requires { C.keeps key value }
-        ensures { WriteEnds
+        ensures ends { WriteEnds
             (⟦<C as StateView<K, V>>⟧.follows self.old (Insert key value now) self.new)
             self.old self.new key value result }
+        ensures settings { self.new.settings ≡ self.old.settings }
     {
         let hash = self.hash(&key);
         self.insert_with_hash(key, hash, value, now)
@@ -268,7 +270,9 @@ impl<K: Hash + Drop, V: Clone, C: CacheTypes<K, V>, R: RowStore<K, V>> State<K, 
     /// Removes the entry of `key`, live or expired, and queues its notice. Cannot fail, and does
     /// not allocate.
     pub fn invalidate(&mut self, key: &K, now: u64)
-        ensures { ⟦<C as StateView<K, V>>⟧.follows self.old (Invalidate key.now now) self.new }
+        ensures stands { ⟦<C as StateView<K, V>>⟧.follows
+            self.old (Invalidate key.now now) self.new }
+        ensures settings { self.new.settings ≡ self.old.settings }
     {
         let hash = self.hash(key);
         self.invalidate_with_hash(key, hash, now);

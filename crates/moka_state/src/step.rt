@@ -1,11 +1,13 @@
 //! Calls and their replies as data: single steps, and runs of steps.
 ghost use Rattle.std.specs.Prelude.{◌≡◌, ◌+◌, ◌≤◌, ◌++◌, length, None, IfOk, IfErr, IfSome, OnErr};
+ghost use Rattle.std.specs.Arc.{arc_value};
 ghost use Rattle.std.specs.List.{AllByRecursion};
 ghost use Rattle.moka_model.specs.Numbers.{flush_point};
+ghost use Rattle.moka_model.specs.Calls.{Get, Insert, InvalidateIf, OrInsert, Remove};
 ghost use Rattle.moka_model.specs.Steps.{events_in};
 ghost use Rattle.moka_model.specs.Conserved.{given_out, IsConserved};
 ghost use Rattle.moka_state.specs.State.{all_writes};
-ghost use Rattle.moka_state.specs.Hashes.{IsHashOfStep};
+ghost use Rattle.moka_state.specs.Hashes.{IsHashOf, IsHashOfStep};
 ghost use Rattle.moka_state.specs.Noticed.{noticed_in};
 ghost use Rattle.moka_state.specs.Replies.{IsRefusal};
 ghost use Rattle.moka_state.specs.Step.{call_of, StepKeeps, ReplyKeeps, IsRun, after_all};
@@ -185,6 +187,7 @@ impl<K: Hash + Drop, V: Clone, C: CacheTypes<K, V>, R: RowStore<K, V>> State<K, 
             self.new }
         ensures kept { ReplyKeeps C.keeps step result }
         ensures refused { IsRefusal result → self.new ≡ self.old }
+        ensures settings { self.new.settings ≡ self.old.settings }
     {
         let hash = self.hash_of_step(&step);
         self.step_with_hash(step, hash)
@@ -206,41 +209,22 @@ impl<K: Hash + Drop, V: Clone, C: CacheTypes<K, V>, R: RowStore<K, V>> State<K, 
         ensures settings { self.new.settings ≡ self.old.settings }
     {
         match step {
-            Step::Get { key, now } => match self.get_with_hash(&*key, hash, now) {
-                Ok(found) => Reply::Found(found),
-                Err(refused) => Reply::Refused(refused),
-            },
+            Step::Get { key, now } => self.step_get(key, hash, now),
             Step::ContainsKey { key, now } => {
                 Reply::Contains(self.contains_key_with_hash(&*key, hash, now))
             }
-            Step::Insert { key, value, now } => match self.write(key, hash, value, now) {
-                Ok(()) => Reply::Done,
-                Err(InsertRefused { cause, .. }) => Reply::Refused(cause),
-            },
-            Step::OrInsert { key, value, now } => {
-                match self.or_insert_with_hash(&key, hash, value, now) {
-                    Ok(entry) => Reply::Entered(entry),
-                    Err(OrInsertRefused { cause, .. }) => Reply::Refused(cause),
-                }
-            }
+            Step::Insert { key, value, now } => self.step_insert(key, hash, value, now),
+            Step::OrInsert { key, value, now } => self.step_or_insert(key, hash, value, now),
             Step::Invalidate { key, now } => {
                 self.invalidate_with_hash(&*key, hash, now);
                 Reply::Done
             }
-            Step::Remove { key, now } => match self.remove_with_hash(&*key, hash, now) {
-                Ok(removed) => Reply::Found(removed),
-                Err(refused) => Reply::Refused(refused),
-            },
+            Step::Remove { key, now } => self.step_remove(key, hash, now),
             Step::InvalidateAll => {
                 self.invalidate_all();
                 Reply::Done
             }
-            Step::InvalidateIf { predicate } => {
-                match self.invalidate_entries_with_arc_fun(predicate) {
-                    Ok(()) => Reply::Done,
-                    Err(refused) => Reply::PredicateRefused(refused),
-                }
-            }
+            Step::InvalidateIf { predicate } => self.step_invalidate_if(predicate),
             Step::RunPendingTasks { now } => {
                 self.run_pending_tasks(now);
                 Reply::Done
@@ -262,6 +246,97 @@ impl<K: Hash + Drop, V: Clone, C: CacheTypes<K, V>, R: RowStore<K, V>> State<K, 
             Step::Abandon { name } => self.step_abandon(name),
             Step::Collect { name } => self.step_collect(name),
             Step::Leave { name } => self.step_leave(name),
+        }
+    }
+
+    // Does a `Get`.
+    fn step_get(&mut self, key: Arc<K>, hash: u64, now: u64) -> Reply<K, V, C>
+        requires hash { IsHashOf (⟦<C as StateView<K, V>>⟧.settings self.old.settings)
+            (arc_value key) hash }
+        ensures reply { RepliesTo ⟦<C as CallView<K, V>>⟧.spec self.old
+            (Get (arc_value key) now) result }
+        ensures stands { GoesOn ⟦<C as CallView<K, V>>⟧.spec self.old
+            (Get (arc_value key) now) result self.new }
+        ensures kept { ReplyKeeps C.keeps (Step.Get key now) result }
+        ensures refused { IsRefusal result → self.new ≡ self.old }
+        ensures settings { self.new.settings ≡ self.old.settings }
+    {
+        match self.get_with_hash(&*key, hash, now) {
+            Ok(found) => Reply::Found(found),
+            Err(refused) => Reply::Refused(refused),
+        }
+    }
+
+    // Does an `Insert`.
+    fn step_insert(&mut self, key: Arc<K>, hash: u64, value: V, now: u64) -> Reply<K, V, C>
+        requires hash { IsHashOf (⟦<C as StateView<K, V>>⟧.settings self.old.settings)
+            (arc_value key) hash }
+        requires keeps { C.keeps (arc_value key) value }
+        ensures reply { RepliesTo ⟦<C as CallView<K, V>>⟧.spec self.old
+            (Insert (arc_value key) value now) result }
+        ensures stands { GoesOn ⟦<C as CallView<K, V>>⟧.spec self.old
+            (Insert (arc_value key) value now) result self.new }
+        ensures kept { ReplyKeeps C.keeps (Step.Insert key value now) result }
+        ensures refused { IsRefusal result → self.new ≡ self.old }
+        ensures settings { self.new.settings ≡ self.old.settings }
+    {
+        match self.write(key, hash, value, now) {
+            Ok(_) => Reply::Done,
+            Err(InsertRefused { cause, .. }) => Reply::Refused(cause),
+        }
+    }
+
+    // Does an `OrInsert`.
+    fn step_or_insert(&mut self, key: Arc<K>, hash: u64, value: V, now: u64) -> Reply<K, V, C>
+        requires hash { IsHashOf (⟦<C as StateView<K, V>>⟧.settings self.old.settings)
+            (arc_value key) hash }
+        requires keeps { C.keeps (arc_value key) value }
+        ensures reply { RepliesTo ⟦<C as CallView<K, V>>⟧.spec self.old
+            (OrInsert (arc_value key) value now) result }
+        ensures stands { GoesOn ⟦<C as CallView<K, V>>⟧.spec self.old
+            (OrInsert (arc_value key) value now) result self.new }
+        ensures kept { ReplyKeeps C.keeps (Step.OrInsert key value now) result }
+        ensures refused { IsRefusal result → self.new ≡ self.old }
+        ensures settings { self.new.settings ≡ self.old.settings }
+    {
+        match self.or_insert_with_hash(&key, hash, value, now) {
+            Ok(entry) => Reply::Entered(entry),
+            Err(OrInsertRefused { cause, .. }) => Reply::Refused(cause),
+        }
+    }
+
+    // Does a `Remove`.
+    fn step_remove(&mut self, key: Arc<K>, hash: u64, now: u64) -> Reply<K, V, C>
+        requires hash { IsHashOf (⟦<C as StateView<K, V>>⟧.settings self.old.settings)
+            (arc_value key) hash }
+        ensures reply { RepliesTo ⟦<C as CallView<K, V>>⟧.spec self.old
+            (Remove (arc_value key) now) result }
+        ensures stands { GoesOn ⟦<C as CallView<K, V>>⟧.spec self.old
+            (Remove (arc_value key) now) result self.new }
+        ensures kept { ReplyKeeps C.keeps (Step.Remove key now) result }
+        ensures refused { IsRefusal result → self.new ≡ self.old }
+        ensures settings { self.new.settings ≡ self.old.settings }
+    {
+        match self.remove_with_hash(&*key, hash, now) {
+            Ok(removed) => Reply::Found(removed),
+            Err(refused) => Reply::Refused(refused),
+        }
+    }
+
+    // Does an `InvalidateIf`.
+    fn step_invalidate_if(&mut self, predicate: Arc<C::Predicate>) -> Reply<K, V, C>
+        requires tests { C.Predicate.tests (arc_value predicate) (C.test (arc_value predicate)) }
+        ensures reply { RepliesTo ⟦<C as CallView<K, V>>⟧.spec self.old
+            (InvalidateIf (C.test (arc_value predicate))) result }
+        ensures stands { GoesOn ⟦<C as CallView<K, V>>⟧.spec self.old
+            (InvalidateIf (C.test (arc_value predicate))) result self.new }
+        ensures kept { ReplyKeeps C.keeps (Step.InvalidateIf predicate) result }
+        ensures refused { IsRefusal result → self.new ≡ self.old }
+        ensures settings { self.new.settings ≡ self.old.settings }
+    {
+        match self.invalidate_entries_with_arc_fun(predicate) {
+            Ok(()) => Reply::Done,
+            Err(refused) => Reply::PredicateRefused(refused),
         }
     }
 
@@ -319,6 +394,7 @@ impl<K: Hash + Drop, V: Clone, C: CacheTypes<K, V>, R: RowStore<K, V>> State<K, 
             length (all_writes self.new) ≤ capacity + flush_point))) }
         ensures refused { OnErr result (self.new ≡ self.old) }
         ensures cause { IfErr result (λ cause. cause ≡ Refused.OutOfMemory) }
+        ensures settings { self.new.settings ≡ self.old.settings }
     {
         let Ok(mut replies) = Vec::with_capacity(self.alloc(), steps.len()) else {
             return Err(Refused::OutOfMemory);

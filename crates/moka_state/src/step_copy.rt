@@ -1,7 +1,7 @@
 //! Clones of steps.
 ghost use Rattle.std.specs.Prelude.{◌≡◌, IfOk};
 ghost use Rattle.moka_turns.specs.Handles.{name_by};
-ghost use Rattle.moka_state.specs.Recorded.{IsOutcomeCopy, IsStepCopy};
+ghost use Rattle.moka_state.specs.Recorded.{IsOfKey, IsOfTurn, IsOutcomeCopy, IsStepCopy};
 
 use crate::step::Step;
 use moka_model::turns::{Op, Outcome};
@@ -38,6 +38,86 @@ fn copy_outcome<V: Clone, E: Drop>(
     })
 }
 
+// Clones a step of a key.
+fn copy_step_of_key<K: Eq + Drop, V: Clone, C: CacheTypes<K, V>>(
+    step: &Step<K, V, C>,
+) -> Result<Step<K, V, C>, AllocError>
+    requires { IsOfKey step.now }
+    ensures { IfOk result (IsStepCopy V.is_clone step.now) }
+{
+    Ok(match step {
+        Step::Get { key, now } => Step::Get {
+            key: key.clone()?,
+            now: *now,
+        },
+        Step::ContainsKey { key, now } => Step::ContainsKey {
+            key: key.clone()?,
+            now: *now,
+        },
+        Step::Insert { key, value, now } => Step::Insert {
+            key: key.clone()?,
+            value: value.clone()?,
+            now: *now,
+        },
+        Step::OrInsert { key, value, now } => Step::OrInsert {
+            key: key.clone()?,
+            value: value.clone()?,
+            now: *now,
+        },
+        Step::Invalidate { key, now } => Step::Invalidate {
+            key: key.clone()?,
+            now: *now,
+        },
+        Step::Remove { key, now } => Step::Remove {
+            key: key.clone()?,
+            now: *now,
+        },
+        _ => unreachable!(),
+    })
+}
+
+// Clones a step of a turn.
+fn copy_step_of_turn<K: Eq + Drop, V: Clone, C: CacheTypes<K, V>>(
+    step: &Step<K, V, C>,
+) -> Result<Step<K, V, C>, AllocError>
+    requires { IsOfTurn step.now }
+    ensures { IfOk result (IsStepCopy V.is_clone step.now) }
+{
+    Ok(match step {
+        Step::Begin {
+            key,
+            kind,
+            replace,
+            now,
+        } => Step::Begin {
+            key: key.clone()?,
+            kind: *kind,
+            replace: *replace,
+            now: *now,
+        },
+        Step::BeginCompute { key, keep, now } => Step::BeginCompute {
+            key: key.clone()?,
+            keep: *keep,
+            now: *now,
+        },
+        Step::Finish { name, outcome, now } => Step::Finish {
+            name: copy_name(name)?,
+            outcome: copy_outcome(outcome)?,
+            now: *now,
+        },
+        Step::Abandon { name } => Step::Abandon {
+            name: copy_name(name)?,
+        },
+        Step::Collect { name } => Step::Collect {
+            name: copy_name(name)?,
+        },
+        Step::Leave { name } => Step::Leave {
+            name: copy_name(name)?,
+        },
+        _ => unreachable!(),
+    })
+}
+
 /// A clone of a step has a clone of the step's value, and shares its key, its error and its
 /// predicate.
 impl<K: Eq + Drop, V: Clone, C: CacheTypes<K, V>> Clone for Step<K, V, C> {
@@ -45,32 +125,12 @@ impl<K: Eq + Drop, V: Clone, C: CacheTypes<K, V>> Clone for Step<K, V, C> {
 
     fn clone(&self) -> Result<Self, AllocError> {
         Ok(match self {
-            Step::Get { key, now } => Step::Get {
-                key: key.clone()?,
-                now: *now,
-            },
-            Step::ContainsKey { key, now } => Step::ContainsKey {
-                key: key.clone()?,
-                now: *now,
-            },
-            Step::Insert { key, value, now } => Step::Insert {
-                key: key.clone()?,
-                value: value.clone()?,
-                now: *now,
-            },
-            Step::OrInsert { key, value, now } => Step::OrInsert {
-                key: key.clone()?,
-                value: value.clone()?,
-                now: *now,
-            },
-            Step::Invalidate { key, now } => Step::Invalidate {
-                key: key.clone()?,
-                now: *now,
-            },
-            Step::Remove { key, now } => Step::Remove {
-                key: key.clone()?,
-                now: *now,
-            },
+            Step::Get { .. }
+            | Step::ContainsKey { .. }
+            | Step::Insert { .. }
+            | Step::OrInsert { .. }
+            | Step::Invalidate { .. }
+            | Step::Remove { .. } => copy_step_of_key(self)?,
             Step::InvalidateAll => Step::InvalidateAll,
             Step::InvalidateIf { predicate } => Step::InvalidateIf {
                 predicate: predicate.clone()?,
@@ -83,36 +143,7 @@ impl<K: Eq + Drop, V: Clone, C: CacheTypes<K, V>> Clone for Step<K, V, C> {
             Step::EntryCount => Step::EntryCount,
             Step::WeightedSize => Step::WeightedSize,
             Step::TakeNotice => Step::TakeNotice,
-            Step::Begin {
-                key,
-                kind,
-                replace,
-                now,
-            } => Step::Begin {
-                key: key.clone()?,
-                kind: *kind,
-                replace: *replace,
-                now: *now,
-            },
-            Step::BeginCompute { key, keep, now } => Step::BeginCompute {
-                key: key.clone()?,
-                keep: *keep,
-                now: *now,
-            },
-            Step::Finish { name, outcome, now } => Step::Finish {
-                name: copy_name(name)?,
-                outcome: copy_outcome(outcome)?,
-                now: *now,
-            },
-            Step::Abandon { name } => Step::Abandon {
-                name: copy_name(name)?,
-            },
-            Step::Collect { name } => Step::Collect {
-                name: copy_name(name)?,
-            },
-            Step::Leave { name } => Step::Leave {
-                name: copy_name(name)?,
-            },
+            _ => copy_step_of_turn(self)?,
         })
     }
 }

@@ -110,8 +110,8 @@ module _ {K V E S : Type 0} (eq : K → K → Bool) (is_clone : V → V → Type
 
       ending : (reached : ℕ) (how : Ending K V Refused) (new : Cursor K) → IsEnding (length states) (StateStands eq is_clone is_infallible stands_for states now) (StateFinds eq is_clone is_infallible stands_for states now keeps) reached how new
           → IsEnding (length histories) (StandsIn eq is_clone is_infallible histories now) (FindsIn eq is_clone is_infallible histories now) reached how new
-      ending reached (Yielded i k v) new ends = (ends.0.found histories stand, ends.1)
-      ending reached (KeyRefused i k e) new ends = (ends.0.found histories stand, ends.1)
+      ending reached (Yielded i k v) new ends = (ends.0.found histories stand, ends.1, ends.2)
+      ending reached (KeyRefused i k e) new ends = (ends.0.found histories stand, ends.1, ends.2)
       ending reached (SegmentRefused e) new ends = (ends.0.stood histories stand, rw same-length ends.1, ends.2)
       ending reached Finished new ends = (rw same-length ends.0, ends.1)
 

@@ -116,7 +116,8 @@ impl<K: Hash + Drop> WalkCursor<K> {
         // So a loop over a cursor ends.
         ensures nearer { IfSome result (λ _. calls_left (length states.now) self.new
             < calls_left (length states.now) self.old) }
-        ensures kept { IfSome result (λ pair. IfOk pair (λ pair. C.keeps (arc_value pair.0) pair.1)) }
+        ensures kept { IfSome result
+            (λ pair. IfOk pair (λ pair. C.keeps (arc_value pair.0) pair.1)) }
         ensures cause { IfSome result (λ pair. IfErr pair (λ cause. cause ≡ Refused.OutOfMemory)) }
     {
         let segments = StatesAt { states, now };

@@ -1,5 +1,6 @@
 -- What the waiting loop returns to callers of a cache.
 use Rattle.std.proofs.Common.{◌≡◌, ℕ, Option, ap, ◌∙◌, subst, sym, refl}
+use Rattle.std.specs.Prelude.{Result, Ok, Err, IfOk}
 use Rattle.std.specs.Arc.{arc_value}
 use Rattle.moka_model.specs.declared.turns.Kind.{Kind}
 use Rattle.moka_model.specs.declared.turns.Kind.TheVariants.{Compute}
@@ -13,7 +14,7 @@ use Rattle.moka_single_flight.proofs.Callers.{ends-hold}
 use Rattle.moka_turns.specs.declared.handles.Turn.{Turn}
 use Rattle.moka_turns.specs.declared.handles.Ticket.{Ticket}
 use Rattle.moka_state.specs.declared.answers.Answer.{Answer}
-use Rattle.moka_sync.specs.declared.value_initializer.ShownTurn.{ShownTurn}
+use Rattle.moka_state.specs.declared.answers.ShownTurn.{ShownTurn}
 use Rattle.moka_sync.specs.Waiting.{AsksSame, InitializerData, ComputerData, IsTurnFor, IsTicketFor, IsSameTicket, IsGivenTo, IsShownTurn, BeginReturns, CollectReturns, BeginComputeReturns, CollectComputeReturns}
 
 -- a ticket that comes back is for the same kind and key
@@ -47,6 +48,11 @@ module _ {K V E P : Type 0} (keeps : K → V → Type 0) where
       (λ old reply new is begun. (still-asks caller old new is begun.0, begins-for caller old reply is begun.1))
       (λ old ticket reply new is of collected. (subst (AsksSame caller) (sym collected.0) is, given-for keeps caller.kind caller.key ticket reply of collected.1))
       most caller waited then (refl, refl) ends).1
+
+  -- the same of the result of the loop
+  pub if-asked : {F : Type 0} (most : Option ℕ) (caller then : InitializerData K P) (result : Result (Joined (Answer K V E) (Turn K)) F) → IfOk result (λ waited. Ends BeginsAs CollectsAs most caller waited then) → IfOk result (HoldsOfJoined (IsGivenTo keeps caller.kind caller.key) (IsTurnFor caller.kind caller.key))
+  if-asked most caller then (Ok waited) ends = asked most caller waited then ends
+  if-asked most caller then (Err cause) ends = tt
 
 module _ {K V : Type 0} (keeps : K → V → Type 0) where
   abbrev pub BeginsComputing : ComputerData K → Begun (Unit {0}) (ShownTurn K V) (Ticket K) → ComputerData K → Type 0

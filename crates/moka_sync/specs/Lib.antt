@@ -1,3 +1,5 @@
+-- The definitions of this crate, and those of a lower crate that its public clauses cite.
+pub use Rattle.moka_guarded.specs.Kept
 pub mod Builder
 pub mod Cache
 pub mod ReplaceIf

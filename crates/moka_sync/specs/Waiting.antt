@@ -12,9 +12,7 @@ use Rattle.moka_turns.specs.Handles.{ticket_name}
 use Rattle.moka_state.specs.Begin.{EntryKeeps}
 use Rattle.moka_state.specs.declared.answers.Answer.{Answer}
 use Rattle.moka_guarded.specs.Kept.{GivenKeeps, AnswerFits}
-use Rattle.moka_sync.specs.declared.value_initializer.InitializerReply.{InitializerReply}
-use Rattle.moka_sync.specs.declared.value_initializer.InitializerReply.TheVariants as replies
-use Rattle.moka_sync.specs.declared.value_initializer.ShownTurn.{ShownTurn}
+use Rattle.moka_state.specs.declared.answers.ShownTurn.{ShownTurn}
 
 -- A caller that asks for a key as an initializer of some kind. Its closure, if it has one, may ask to replace a live
 -- value.
@@ -55,11 +53,6 @@ module _ {K V E : Type 0} (keeps : K → V → Type 0) where
   -- What a collect returns: an answer for the kind and the key of the ticket, or the ticket itself.
   abbrev pub CollectReturns : Ticket K → Collected (Answer K V E) (Ticket K) → Type 0
   CollectReturns ticket reply = HoldsOfCollected (IsGivenTo ticket.key.kind (arc_value ticket.key.key)) (IsSameTicket ticket) reply
-
-  -- What a caller with an initializer gets in the end: an answer or a turn, each for its kind and key.
-  abbrev pub InitializerReplyKeeps : Kind → K → InitializerReply K V E → Type 0
-  InitializerReplyKeeps kind key (replies.Answer answer) = IsGivenTo kind key answer
-  InitializerReplyKeeps kind key (replies.Turn turn) = IsTurnFor kind key turn
 
 module _ {K V : Type 0} (keeps : K → V → Type 0) where
   -- The turn of a compute of a key. The value that it was shown, if any, satisfies `keeps`.

@@ -579,7 +579,8 @@ pub(crate) fn share<T: Drop>(alloc: Global, value: T) -> Result<Arc<T>, BuildErr
 
 // Copies a name, if there is one. Fails only with `OutOfMemory`.
 fn copy_name(alloc: Global, name: Option<&str>) -> Result<Option<String>, BuildError>
-    ensures copied { IfOk result (λ copy. option_map string_bytes copy ≡ option_map (λ name. name.now) name.entry) }
+    ensures copied { IfOk result (λ copy. option_map string_bytes copy
+        ≡ option_map (λ name. name.now) name.entry) }
     ensures cause { IfErr result (λ cause. cause ≡ BuildError.OutOfMemory) }
 {
     match name {

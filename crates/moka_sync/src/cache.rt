@@ -78,7 +78,8 @@ pub struct Cache<K: Hash + Drop, V: Clone, C: CacheTypes<K, V>, W> {
 }
 
 impl<K: Hash + Drop, V: Clone, C: CacheTypes<K, V>, W> Model for Cache<K, V, C, W> {
-    ghost Value = { CacheData K V C.Hasher C.Weigher C.Expiry C.Frequency C.Error C.Listener C.Clock };
+    ghost Value = { CacheData K V C.Hasher C.Weigher C.Expiry C.Frequency C.Error C.Listener
+        C.Clock };
 
     ghost view = { λ cache. record {
       opening = (arc_value cache.inner).locked.state;

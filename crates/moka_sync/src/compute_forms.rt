@@ -6,12 +6,11 @@ ghost use Rattle.moka_state.specs.Finish.{IsComputed, OutcomeKeeps};
 ghost use Rattle.moka_guarded.specs.Kept.{ResultKeeps};
 
 use crate::cache::Cache;
-use crate::value_initializer::ShownTurn;
 use moka_model::comp_result::CompResult;
 use moka_model::entry::Entry;
 use moka_model::turns::{Kind, Op, Outcome};
 use moka_policy::policy::{CacheTypes, Refused};
-use moka_state::answers::{FinishRefused, Finished};
+use moka_state::answers::{FinishRefused, Finished, ShownTurn};
 use moka_state::handles::Turn;
 use std::hash::Hash;
 use std::sync::{Arc, Wait};
@@ -42,7 +41,8 @@ impl<K: Hash + Drop, V: Clone, C: CacheTypes<K, V>, W: Wait> Cache<K, V, C, W> {
             → IfSome shown (EntryKeeps C.keeps (arc_value key)) → F.pre f shown }
         requires keeps { (shown : Option (Entry K V)) (said : Result (Op V) C.Error)
             → IfSome shown (EntryKeeps C.keeps (arc_value key)) → F.post f shown said
-            → IfOk said (λ op. OutcomeKeeps {E = C.Error} (C.keeps (arc_value key)) (Outcome.Op op)) }
+            → IfOk said (λ op. OutcomeKeeps {E = C.Error} (C.keeps (arc_value key))
+            (Outcome.Op op)) }
         ensures { IfOk result (λ tried. IfOk tried (ResultKeeps C.keeps (arc_value key))) }
     {
         let ShownTurn { turn, shown } = self.ask_to_compute(key, true)?;
@@ -76,7 +76,8 @@ impl<K: Hash + Drop, V: Clone, C: CacheTypes<K, V>, W: Wait> Cache<K, V, C, W> {
     // Ends the turn of a compute with an operation. If that fails, abandons the turn.
     fn end_compute(&self, turn: Turn<K>, op: Op<V>) -> Result<CompResult<K, V>, Refused>
         requires kind { turn.key.kind ≡ Kind.Compute }
-        requires kept { OutcomeKeeps {E = C.Error} (C.keeps (arc_value turn.key.key)) (Outcome.Op op) }
+        requires kept { OutcomeKeeps {E = C.Error} (C.keeps (arc_value turn.key.key))
+            (Outcome.Op op) }
         ensures given { IfOk result (IsComputed V.is_clone (arc_value turn.key.key) op) }
         ensures kept { IfOk result (ResultKeeps C.keeps (arc_value turn.key.key)) }
     {

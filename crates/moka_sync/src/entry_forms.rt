@@ -1,18 +1,19 @@
 //! Loaders with a closure, which return entries. The closure runs with no lock held.
-ghost use Rattle.std.specs.Prelude.{◌≡◌, ◌≢◌, None, Option, Result, true, IfOk, IfSome, MatchOption, MatchResult};
+ghost use Rattle.std.specs.Prelude.{◌≡◌, ◌≢◌, None, true, IfOk, IfSome};
 ghost use Rattle.std.specs.Arc.{arc_value};
 ghost use Rattle.moka_state.specs.Begin.{EntryKeeps};
-ghost use Rattle.moka_state.specs.Finish.{Fits, IsGiven, OutcomeKeeps, outcome_of};
-ghost use Rattle.moka_guarded.specs.Kept.{AnswerFits, GivenKeeps};
+ghost use Rattle.moka_state.specs.Finish.{Fits, OutcomeKeeps, outcome_of};
+ghost use Rattle.moka_state.specs.Loader.{AnswerFits, GivenKeeps};
 ghost use Rattle.moka_sync.specs.ReplaceIf.{TakesKeptAgain};
 
 use crate::cache::Cache;
-use crate::value_initializer::InitializerReply;
 use moka_model::entry::Entry;
 use moka_model::turns::{Kind, Outcome};
 use moka_policy::policy::{CacheTypes, Refused};
+use moka_single_flight::replies::Joined;
 use moka_state::answers::{Answer, FinishRefused, Finished};
 use moka_state::handles::Turn;
+use moka_state::loader::{LoaderResult, share_error};
 use std::hash::Hash;
 use std::sync::{Arc, Wait};
 
@@ -42,132 +43,80 @@ impl<K: Hash + Drop, V: Clone, C: CacheTypes<K, V>, W: Wait> Cache<K, V, C, W> {
         }
     }
 
-    // Returns the live entry of a key, or else that of what the closure returns.
-    pub(crate) fn value_entry<F: FnOnce() -> V + Drop>(
+    // Returns the live entry of a key, or else what comes of what the closure returns.
+    pub(crate) fn load<G: LoaderResult<K, V, C::Error>, F: FnOnce() -> G + Drop>(
         &self,
         key: K,
         init: F,
-    ) -> Result<Entry<K, V>, Refused>
+    ) -> Result<G::Loaded, Refused>
         requires asks { F.IsAlwaysCallable init }
-        requires keeps { (v : V) → F.post init v → C.keeps key v }
-        ensures { IfOk result (EntryKeeps C.keeps key) }
+        requires keeps { (given : G) → F.post init given
+            → OutcomeKeeps (C.keeps key) (G.outcome given) }
+        ensures { IfOk result (λ loaded. GivenKeeps C.keeps key (G.answer loaded)) }
     {
         if let Some(found) = self.find_live(&key)? {
-            return Ok(found);
+            return Ok(G::found(found));
         }
         let key = self.share(key)?;
-        self.value_entry_shared(key, init, none_like(|_: &V| false))
+        self.load_shared(key, init, none_like(|_: &V| false))
     }
 
-    // Does what `value_entry` does, but `replace_if` may ask to replace a live value. Shares the
-    // key first, on a hit too.
-    pub(crate) fn value_entry_if<F: FnOnce() -> V + Drop, P: FnMut(&V) -> bool + Drop>(
-        &self,
-        key: K,
-        init: F,
-        replace_if: P,
-    ) -> Result<Entry<K, V>, Refused>
+    // Does what `load` does, but `replace_if` may ask to replace a live value. Shares the key
+    // first, on a hit too.
+    pub(crate) fn load_if<
+        G: LoaderResult<K, V, C::Error>,
+        F: FnOnce() -> G + Drop,
+        P: FnMut(&V) -> bool + Drop,
+    >(&self, key: K, init: F, replace_if: P) -> Result<G::Loaded, Refused>
         requires asks { F.IsAlwaysCallable init }
         requires shows { TakesKeptAgain (C.keeps key) P.FnMut replace_if }
-        requires keeps { (v : V) → F.post init v → C.keeps key v }
-        ensures { IfOk result (EntryKeeps C.keeps key) }
+        requires keeps { (given : G) → F.post init given
+            → OutcomeKeeps (C.keeps key) (G.outcome given) }
+        ensures { IfOk result (λ loaded. GivenKeeps C.keeps key (G.answer loaded)) }
     {
         let key = self.share(key)?;
-        self.value_entry_shared(key, init, Some(replace_if))
+        self.load_shared(key, init, Some(replace_if))
     }
 
-    // Does what `value_entry` does, for a shared key, and with `replace_if` if there is one.
-    pub(crate) fn value_entry_shared<F: FnOnce() -> V + Drop, P: FnMut(&V) -> bool + Drop>(
-        &self,
-        key: Arc<K>,
-        init: F,
-        replace_if: Option<P>,
-    ) -> Result<Entry<K, V>, Refused>
+    // Does what `load` does, for a shared key, and with `replace_if` if there is one. Looks the key
+    // up only in the begin.
+    fn load_shared<
+        G: LoaderResult<K, V, C::Error>,
+        F: FnOnce() -> G + Drop,
+        P: FnMut(&V) -> bool + Drop,
+    >(&self, key: Arc<K>, init: F, replace_if: Option<P>) -> Result<G::Loaded, Refused>
         requires asks { F.IsAlwaysCallable init }
         requires shows { IfSome replace_if (TakesKeptAgain (C.keeps (arc_value key)) P.FnMut) }
-        requires keeps { (v : V) → F.post init v → C.keeps (arc_value key) v }
-        ensures { IfOk result (EntryKeeps C.keeps (arc_value key)) }
+        requires keeps { (given : G) → F.post init given
+            → OutcomeKeeps (C.keeps (arc_value key)) (G.outcome given) }
+        ensures { IfOk result (λ loaded. GivenKeeps C.keeps (arc_value key) (G.answer loaded)) }
     {
-        match self.ask(key, Kind::With, replace_if)? {
-            InitializerReply::Answer(answer) => Ok(entry_in(answer)),
-            InitializerReply::Turn(turn) => self.end_with_value(turn, init()),
+        match self.ask(key, G::kind(), replace_if)? {
+            Joined::Value(answer) => Ok(G::loaded(answer)),
+            Joined::Turn(turn) => self.end_with(turn, init()),
+            Joined::TooMany => Err(Refused::WaitsAbandoned),
         }
     }
 
-    // Returns the live entry of a key, or else that of what the closure returns, if it returns a
-    // value.
-    pub(crate) fn optional_entry<F: FnOnce() -> Option<V> + Drop>(
+    // Ends a turn with what a closure returned. If that fails, abandons the turn.
+    fn end_with<G: LoaderResult<K, V, C::Error>>(
         &self,
-        key: K,
-        init: F,
-    ) -> Result<Option<Entry<K, V>>, Refused>
-        requires asks { F.IsAlwaysCallable init }
-        requires keeps { (o : Option V) → F.post init o → IfSome o (C.keeps key) }
-        ensures { IfOk result (λ found. IfSome found (EntryKeeps C.keeps key)) }
+        turn: Turn<K>,
+        given: G,
+    ) -> Result<G::Loaded, Refused>
+        requires kind { turn.key.kind ≡ G.kind_of }
+        requires initializer { turn.key.kind ≢ Kind.Compute }
+        requires kept { OutcomeKeeps (C.keeps (arc_value turn.key.key)) (G.outcome given) }
+        ensures { IfOk result
+            (λ loaded. GivenKeeps C.keeps (arc_value turn.key.key) (G.answer loaded)) }
     {
-        if let Some(found) = self.find_live(&key)? {
-            return Ok(Some(found));
-        }
-        let key = self.share(key)?;
-        self.optional_entry_shared(key, init)
-    }
-
-    // Does what `optional_entry` does, for a shared key.
-    pub(crate) fn optional_entry_shared<F: FnOnce() -> Option<V> + Drop>(
-        &self,
-        key: Arc<K>,
-        init: F,
-    ) -> Result<Option<Entry<K, V>>, Refused>
-        requires asks { F.IsAlwaysCallable init }
-        requires keeps { (o : Option V) → F.post init o → IfSome o (C.keeps (arc_value key)) }
-        ensures { IfOk result (λ found. IfSome found (EntryKeeps C.keeps (arc_value key))) }
-    {
-        match self.ask(key, Kind::Optionally, none_like(|_: &V| false))? {
-            InitializerReply::Answer(answer) => Ok(optional_entry_in(answer)),
-            InitializerReply::Turn(turn) => match init() {
-                Some(value) => Ok(Some(self.end_with_value(turn, value)?)),
-                None => {
-                    self.end_turn(turn, Outcome::Nothing)?;
-                    Ok(None)
-                }
-            },
-        }
-    }
-
-    // Returns the live entry of a key, or else that of what the closure returns, or the closure's
-    // error.
-    pub(crate) fn tried_entry<F: FnOnce() -> Result<V, C::Error> + Drop>(
-        &self,
-        key: K,
-        init: F,
-    ) -> Result<Result<Entry<K, V>, Arc<C::Error>>, Refused>
-        requires asks { F.IsAlwaysCallable init }
-        requires keeps { (r : Result V C.Error) → F.post init r → IfOk r (C.keeps key) }
-        ensures { IfOk result (λ tried. IfOk tried (EntryKeeps C.keeps key)) }
-    {
-        if let Some(found) = self.find_live(&key)? {
-            return Ok(Ok(found));
-        }
-        let key = self.share(key)?;
-        self.tried_entry_shared(key, init)
-    }
-
-    // Does what `tried_entry` does, for a shared key.
-    pub(crate) fn tried_entry_shared<F: FnOnce() -> Result<V, C::Error> + Drop>(
-        &self,
-        key: Arc<K>,
-        init: F,
-    ) -> Result<Result<Entry<K, V>, Arc<C::Error>>, Refused>
-        requires asks { F.IsAlwaysCallable init }
-        requires keeps { (r : Result V C.Error) → F.post init r → IfOk r (C.keeps (arc_value key)) }
-        ensures { IfOk result (λ tried. IfOk tried (EntryKeeps C.keeps (arc_value key))) }
-    {
-        match self.ask(key, Kind::Try, none_like(|_: &V| false))? {
-            InitializerReply::Answer(answer) => Ok(tried_entry_in(answer)),
-            InitializerReply::Turn(turn) => match init() {
-                Ok(value) => Ok(Ok(self.end_with_value(turn, value)?)),
-                Err(error) => Ok(Err(self.end_with_error(turn, error)?)),
-            },
+        let Ok(outcome) = share_error(self.inner.alloc, given.into_outcome()) else {
+            let _ = self.abandon(turn);
+            return Err(Refused::OutOfMemory);
+        };
+        match self.end_turn(turn, outcome) {
+            Ok(answer) => Ok(G::loaded(answer)),
+            Err(cause) => Err(cause),
         }
     }
 
@@ -180,7 +129,7 @@ impl<K: Hash + Drop, V: Clone, C: CacheTypes<K, V>, W: Wait> Cache<K, V, C, W> {
         requires fits { Fits C.Error turn.key.kind (outcome_of outcome) }
         requires initializer { turn.key.kind ≢ Kind.Compute }
         requires kept { OutcomeKeeps (C.keeps (arc_value turn.key.key)) outcome }
-        ensures given { IfOk result (IsGiven V.is_clone (arc_value turn.key.key) outcome) }
+        ensures fits { IfOk result (AnswerFits turn.key.kind) }
         ensures kept { IfOk result (GivenKeeps C.keeps (arc_value turn.key.key)) }
     {
         let refused = match self.finish(turn, outcome) {
@@ -196,36 +145,6 @@ impl<K: Hash + Drop, V: Clone, C: CacheTypes<K, V>, W: Wait> Cache<K, V, C, W> {
         let _ = self.abandon(turn);
         Err(cause)
     }
-
-    // Ends a turn with a value, and returns its entry.
-    fn end_with_value(&self, turn: Turn<K>, value: V) -> Result<Entry<K, V>, Refused>
-        requires fits { Fits C.Error turn.key.kind (Outcome.Value value) }
-        requires initializer { turn.key.kind ≢ Kind.Compute }
-        requires kept { C.keeps (arc_value turn.key.key) value }
-        ensures { IfOk result (EntryKeeps C.keeps (arc_value turn.key.key)) }
-    {
-        match self.end_turn(turn, Outcome::Value(value)) {
-            Ok(Answer::Entry(entry)) => Ok(entry),
-            Ok(_) => unreachable!(),
-            Err(cause) => Err(cause),
-        }
-    }
-
-    // Ends a turn with an error, and returns the error in an `Arc`. If that cannot be allocated,
-    // abandons the turn.
-    fn end_with_error(&self, turn: Turn<K>, error: C::Error) -> Result<Arc<C::Error>, Refused>
-        requires kind { turn.key.kind ≡ Kind.Try }
-    {
-        let Ok(error) = self.share(error) else {
-            let _ = self.abandon(turn);
-            return Err(Refused::OutOfMemory);
-        };
-        match self.end_turn(turn, Outcome::Failed(error)) {
-            Ok(Answer::Failed(error)) => Ok(error),
-            Ok(_) => unreachable!(),
-            Err(cause) => Err(cause),
-        }
-    }
 }
 
 impl<K: Hash + Clone + Drop, V: Clone, C: CacheTypes<K, V>, W: Wait> Cache<K, V, C, W> {
@@ -239,111 +158,39 @@ impl<K: Hash + Clone + Drop, V: Clone, C: CacheTypes<K, V>, W: Wait> Cache<K, V,
         }
     }
 
-    // Does what `value_entry` does, for a key by reference.
-    pub(crate) fn value_entry_by_ref<F: FnOnce() -> V + Drop>(
+    // Does what `load` does, for a key by reference.
+    pub(crate) fn load_by_ref<G: LoaderResult<K, V, C::Error>, F: FnOnce() -> G + Drop>(
         &self,
         key: &K,
         init: F,
-    ) -> Result<Entry<K, V>, Refused>
+    ) -> Result<G::Loaded, Refused>
         requires copies { (a b : K) → K.is_clone a b → K.eq a b ≡ true }
         requires asks { F.IsAlwaysCallable init }
-        requires keeps { (v : V) → F.post init v → C.keeps key.now v }
-        ensures { IfOk result (EntryKeeps C.keeps key.now) }
+        requires keeps { (given : G) → F.post init given
+            → OutcomeKeeps (C.keeps key.now) (G.outcome given) }
+        ensures { IfOk result (λ loaded. GivenKeeps C.keeps key.now (G.answer loaded)) }
     {
         if let Some(found) = self.find_live(key)? {
-            return Ok(found);
+            return Ok(G::found(found));
         }
         let copy = self.share_copy(key)?;
-        self.value_entry_shared(copy, init, none_like(|_: &V| false))
+        self.load_shared(copy, init, none_like(|_: &V| false))
     }
 
-    // Does what `value_entry_if` does, for a key by reference.
-    pub(crate) fn value_entry_if_by_ref<F: FnOnce() -> V + Drop, P: FnMut(&V) -> bool + Drop>(
-        &self,
-        key: &K,
-        init: F,
-        replace_if: P,
-    ) -> Result<Entry<K, V>, Refused>
+    // Does what `load_if` does, for a key by reference.
+    pub(crate) fn load_if_by_ref<
+        G: LoaderResult<K, V, C::Error>,
+        F: FnOnce() -> G + Drop,
+        P: FnMut(&V) -> bool + Drop,
+    >(&self, key: &K, init: F, replace_if: P) -> Result<G::Loaded, Refused>
         requires copies { (a b : K) → K.is_clone a b → K.eq a b ≡ true }
         requires asks { F.IsAlwaysCallable init }
         requires shows { TakesKeptAgain (C.keeps key.now) P.FnMut replace_if }
-        requires keeps { (v : V) → F.post init v → C.keeps key.now v }
-        ensures { IfOk result (EntryKeeps C.keeps key.now) }
+        requires keeps { (given : G) → F.post init given
+            → OutcomeKeeps (C.keeps key.now) (G.outcome given) }
+        ensures { IfOk result (λ loaded. GivenKeeps C.keeps key.now (G.answer loaded)) }
     {
         let copy = self.share_copy(key)?;
-        self.value_entry_shared(copy, init, Some(replace_if))
-    }
-
-    // Does what `optional_entry` does, for a key by reference.
-    pub(crate) fn optional_entry_by_ref<F: FnOnce() -> Option<V> + Drop>(
-        &self,
-        key: &K,
-        init: F,
-    ) -> Result<Option<Entry<K, V>>, Refused>
-        requires copies { (a b : K) → K.is_clone a b → K.eq a b ≡ true }
-        requires asks { F.IsAlwaysCallable init }
-        requires keeps { (o : Option V) → F.post init o → IfSome o (C.keeps key.now) }
-        ensures { IfOk result (λ found. IfSome found (EntryKeeps C.keeps key.now)) }
-    {
-        if let Some(found) = self.find_live(key)? {
-            return Ok(Some(found));
-        }
-        let copy = self.share_copy(key)?;
-        self.optional_entry_shared(copy, init)
-    }
-
-    // Does what `tried_entry` does, for a key by reference.
-    pub(crate) fn tried_entry_by_ref<F: FnOnce() -> Result<V, C::Error> + Drop>(
-        &self,
-        key: &K,
-        init: F,
-    ) -> Result<Result<Entry<K, V>, Arc<C::Error>>, Refused>
-        requires copies { (a b : K) → K.is_clone a b → K.eq a b ≡ true }
-        requires asks { F.IsAlwaysCallable init }
-        requires keeps { (r : Result V C.Error) → F.post init r → IfOk r (C.keeps key.now) }
-        ensures { IfOk result (λ tried. IfOk tried (EntryKeeps C.keeps key.now)) }
-    {
-        if let Some(found) = self.find_live(key)? {
-            return Ok(Ok(found));
-        }
-        let copy = self.share_copy(key)?;
-        self.tried_entry_shared(copy, init)
-    }
-}
-
-// Returns the entry in the answer to an initializer of the kind `With`.
-fn entry_in<K: Drop, V: Drop, E: Drop>(answer: Answer<K, V, E>) -> Entry<K, V>
-    requires { AnswerFits Kind.With answer }
-    ensures { answer ≡ Answer.Entry result }
-{
-    match answer {
-        Answer::Entry(entry) => entry,
-        Answer::Nothing => unreachable!(),
-        Answer::Failed(_) => unreachable!(),
-    }
-}
-
-// Returns the entry, if any, in the answer to an initializer of the kind `Optionally`.
-fn optional_entry_in<K: Drop, V: Drop, E: Drop>(answer: Answer<K, V, E>) -> Option<Entry<K, V>>
-    requires { AnswerFits Kind.Optionally answer }
-    ensures { MatchOption result (answer ≡ Answer.Nothing) (λ entry. answer ≡ Answer.Entry entry) }
-{
-    match answer {
-        Answer::Entry(entry) => Some(entry),
-        Answer::Nothing => None,
-        Answer::Failed(_) => unreachable!(),
-    }
-}
-
-// Returns the entry or the error in the answer to an initializer of the kind `Try`.
-fn tried_entry_in<K: Drop, V: Drop, E: Drop>(answer: Answer<K, V, E>) -> Result<Entry<K, V>, Arc<E>>
-    requires { AnswerFits Kind.Try answer }
-    ensures { MatchResult result (λ entry. answer ≡ Answer.Entry entry)
-        (λ error. answer ≡ Answer.Failed error) }
-{
-    match answer {
-        Answer::Entry(entry) => Ok(entry),
-        Answer::Failed(error) => Err(error),
-        Answer::Nothing => unreachable!(),
+        self.load_shared(copy, init, Some(replace_if))
     }
 }

@@ -94,7 +94,7 @@ impl<'a, K: Hash + Drop, V: Clone, C: CacheTypes<K, V>, W: Wait> OwnedKeyEntrySe
         ensures kept { IfOk result (EntryKeeps C.keeps self.entry.key) }
     {
         let OwnedKeyEntrySelector { cache, key } = self;
-        cache.value_entry(key, init)
+        cache.load(key, init)
     }
 
     /// Does what [`OwnedKeyEntrySelector::or_insert_with`] does, but treats a live value as absent
@@ -114,7 +114,7 @@ impl<'a, K: Hash + Drop, V: Clone, C: CacheTypes<K, V>, W: Wait> OwnedKeyEntrySe
         ensures kept { IfOk result (EntryKeeps C.keeps self.entry.key) }
     {
         let OwnedKeyEntrySelector { cache, key } = self;
-        cache.value_entry_if(key, init, replace_if)
+        cache.load_if(key, init, replace_if)
     }
 
     /// Does what [`OwnedKeyEntrySelector::or_insert_with`] does, for an `init` that may return
@@ -123,6 +123,7 @@ impl<'a, K: Hash + Drop, V: Clone, C: CacheTypes<K, V>, W: Wait> OwnedKeyEntrySe
     /// # Errors
     ///
     /// As [`Cache::get_with`].
+    #[tactic(auto, using(moka_state::proofs::Loaders::optional_owes))]
     pub fn or_optionally_insert_with<F: FnOnce() -> Option<V> + Drop>(
         self,
         init: F,
@@ -132,7 +133,7 @@ impl<'a, K: Hash + Drop, V: Clone, C: CacheTypes<K, V>, W: Wait> OwnedKeyEntrySe
         ensures kept { IfOk result (λ found. IfSome found (EntryKeeps C.keeps self.entry.key)) }
     {
         let OwnedKeyEntrySelector { cache, key } = self;
-        cache.optional_entry(key, init)
+        cache.load(key, init)
     }
 
     /// Does what [`OwnedKeyEntrySelector::or_insert_with`] does, for an `init` that may fail, as
@@ -141,6 +142,7 @@ impl<'a, K: Hash + Drop, V: Clone, C: CacheTypes<K, V>, W: Wait> OwnedKeyEntrySe
     /// # Errors
     ///
     /// As [`Cache::try_get_with`].
+    #[tactic(auto, using(moka_state::proofs::Loaders::tried_owes))]
     pub fn or_try_insert_with<F: FnOnce() -> Result<V, C::Error> + Drop>(
         self,
         init: F,
@@ -150,7 +152,7 @@ impl<'a, K: Hash + Drop, V: Clone, C: CacheTypes<K, V>, W: Wait> OwnedKeyEntrySe
         ensures kept { IfOk result (λ tried. IfOk tried (EntryKeeps C.keeps self.entry.key)) }
     {
         let OwnedKeyEntrySelector { cache, key } = self;
-        cache.tried_entry(key, init)
+        cache.load(key, init)
     }
 
     /// Calls `f` with the live entry of the key, if there is one, and does what it returns.
@@ -283,7 +285,7 @@ impl<'a, K: Hash + Clone + Drop, V: Clone, C: CacheTypes<K, V>, W: Wait> RefKeyE
         ensures kept { IfOk result (EntryKeeps C.keeps self.entry.key.now) }
     {
         let RefKeyEntrySelector { cache, key } = self;
-        cache.value_entry_by_ref(key, init)
+        cache.load_by_ref(key, init)
     }
 
     /// Does what [`OwnedKeyEntrySelector::or_insert_with_if`] does.
@@ -299,10 +301,11 @@ impl<'a, K: Hash + Clone + Drop, V: Clone, C: CacheTypes<K, V>, W: Wait> RefKeyE
         ensures kept { IfOk result (EntryKeeps C.keeps self.entry.key.now) }
     {
         let RefKeyEntrySelector { cache, key } = self;
-        cache.value_entry_if_by_ref(key, init, replace_if)
+        cache.load_if_by_ref(key, init, replace_if)
     }
 
     /// Does what [`OwnedKeyEntrySelector::or_optionally_insert_with`] does.
+    #[tactic(auto, using(moka_state::proofs::Loaders::optional_owes))]
     pub fn or_optionally_insert_with<F: FnOnce() -> Option<V> + Drop>(
         self,
         init: F,
@@ -313,10 +316,11 @@ impl<'a, K: Hash + Clone + Drop, V: Clone, C: CacheTypes<K, V>, W: Wait> RefKeyE
         ensures kept { IfOk result (λ found. IfSome found (EntryKeeps C.keeps self.entry.key.now)) }
     {
         let RefKeyEntrySelector { cache, key } = self;
-        cache.optional_entry_by_ref(key, init)
+        cache.load_by_ref(key, init)
     }
 
     /// Does what [`OwnedKeyEntrySelector::or_try_insert_with`] does.
+    #[tactic(auto, using(moka_state::proofs::Loaders::tried_owes))]
     pub fn or_try_insert_with<F: FnOnce() -> Result<V, C::Error> + Drop>(
         self,
         init: F,
@@ -327,7 +331,7 @@ impl<'a, K: Hash + Clone + Drop, V: Clone, C: CacheTypes<K, V>, W: Wait> RefKeyE
         ensures kept { IfOk result (λ tried. IfOk tried (EntryKeeps C.keeps self.entry.key.now)) }
     {
         let RefKeyEntrySelector { cache, key } = self;
-        cache.tried_entry_by_ref(key, init)
+        cache.load_by_ref(key, init)
     }
 
     /// Does what [`OwnedKeyEntrySelector::and_compute_with`] does.
@@ -375,7 +379,8 @@ impl<'a, K: Hash + Clone + Drop, V: Clone, C: CacheTypes<K, V>, W: Wait> RefKeyE
         requires asks { (shown : Option (Entry K V))
             → IfSome shown (EntryKeeps C.keeps self.key.now) → F.pre f shown }
         requires keeps { (shown : Option (Entry K V)) (v : V)
-            → IfSome shown (EntryKeeps C.keeps self.key.now) → F.post f shown v → C.keeps self.key.now v }
+            → IfSome shown (EntryKeeps C.keeps self.key.now) → F.post f shown v
+            → C.keeps self.key.now v }
         ensures kept { IfOk result (EntryKeeps C.keeps self.entry.key.now) }
     {
         let RefKeyEntrySelector { cache, key } = self;

@@ -39,7 +39,7 @@ impl<K: Hash + Drop, V: Clone, C: CacheTypes<K, V>, W: Wait> Cache<K, V, C, W> {
         requires keeps { (v : V) → F.post init v → C.keeps key v }
         ensures kept { IfOk result (C.keeps key) }
     {
-        let entry = self.value_entry(key, init)?;
+        let entry = self.load(key, init)?;
         Ok(entry.into_value())
     }
 
@@ -50,11 +50,12 @@ impl<K: Hash + Drop, V: Clone, C: CacheTypes<K, V>, W: Wait> Cache<K, V, C, W> {
     /// value. The prover asks that it may be called at each value that satisfies `keeps` with `key`,
     /// and again after each such call. A hit allocates for the key too.
     ///
-    /// Deprecated in moka in favour of `entry` and `or_insert_with_if`.
+    /// Deprecated: `entry` and `or_insert_with_if` do the same.
     ///
     /// # Errors
     ///
     /// As [`Cache::get_with`].
+    #[deprecated(note = "replaced by `entry` and `or_insert_with_if`")]
     pub fn get_with_if<F: FnOnce() -> V + Drop, P: FnMut(&V) -> bool + Drop>(
         &self,
         key: K,
@@ -66,7 +67,7 @@ impl<K: Hash + Drop, V: Clone, C: CacheTypes<K, V>, W: Wait> Cache<K, V, C, W> {
         requires keeps { (v : V) → F.post init v → C.keeps key v }
         ensures kept { IfOk result (C.keeps key) }
     {
-        let entry = self.value_entry_if(key, init, replace_if)?;
+        let entry = self.load_if(key, init, replace_if)?;
         Ok(entry.into_value())
     }
 
@@ -76,6 +77,7 @@ impl<K: Hash + Drop, V: Clone, C: CacheTypes<K, V>, W: Wait> Cache<K, V, C, W> {
     /// # Errors
     ///
     /// As [`Cache::get_with`].
+    #[tactic(auto, using(moka_state::proofs::Loaders::optional_owes))]
     pub fn optionally_get_with<F: FnOnce() -> Option<V> + Drop>(
         &self,
         key: K,
@@ -85,7 +87,7 @@ impl<K: Hash + Drop, V: Clone, C: CacheTypes<K, V>, W: Wait> Cache<K, V, C, W> {
         requires keeps { (o : Option V) → F.post init o → IfSome o (C.keeps key) }
         ensures kept { IfOk result (λ found. IfSome found (C.keeps key)) }
     {
-        match self.optional_entry(key, init)? {
+        match self.load(key, init)? {
             Some(entry) => Ok(Some(entry.into_value())),
             None => Ok(None),
         }
@@ -99,6 +101,7 @@ impl<K: Hash + Drop, V: Clone, C: CacheTypes<K, V>, W: Wait> Cache<K, V, C, W> {
     /// The outer error is the cache's own: as [`Cache::get_with`], and
     ///
     /// - `OutOfMemory`: allocating the `Arc` failed. The turn is abandoned.
+    #[tactic(auto, using(moka_state::proofs::Loaders::tried_owes))]
     pub fn try_get_with<F: FnOnce() -> Result<V, C::Error> + Drop>(
         &self,
         key: K,
@@ -108,7 +111,7 @@ impl<K: Hash + Drop, V: Clone, C: CacheTypes<K, V>, W: Wait> Cache<K, V, C, W> {
         requires keeps { (r : Result V C.Error) → F.post init r → IfOk r (C.keeps key) }
         ensures kept { IfOk result (λ tried. IfOk tried (C.keeps key)) }
     {
-        match self.tried_entry(key, init)? {
+        match self.load(key, init)? {
             Ok(entry) => Ok(Ok(entry.into_value())),
             Err(error) => Ok(Err(error)),
         }
@@ -129,7 +132,7 @@ impl<K: Hash + Clone + Drop, V: Clone, C: CacheTypes<K, V>, W: Wait> Cache<K, V,
         requires keeps { (v : V) → F.post init v → C.keeps key.now v }
         ensures kept { IfOk result (C.keeps key.now) }
     {
-        let entry = self.value_entry_by_ref(key, init)?;
+        let entry = self.load_by_ref(key, init)?;
         Ok(entry.into_value())
     }
 
@@ -141,6 +144,7 @@ impl<K: Hash + Clone + Drop, V: Clone, C: CacheTypes<K, V>, W: Wait> Cache<K, V,
     /// # Errors
     ///
     /// As [`Cache::get_with`].
+    #[tactic(auto, using(moka_state::proofs::Loaders::optional_owes))]
     pub fn optionally_get_with_by_ref<F: FnOnce() -> Option<V> + Drop>(
         &self,
         key: &K,
@@ -151,7 +155,7 @@ impl<K: Hash + Clone + Drop, V: Clone, C: CacheTypes<K, V>, W: Wait> Cache<K, V,
         requires keeps { (o : Option V) → F.post init o → IfSome o (C.keeps key.now) }
         ensures kept { IfOk result (λ found. IfSome found (C.keeps key.now)) }
     {
-        match self.optional_entry_by_ref(key, init)? {
+        match self.load_by_ref(key, init)? {
             Some(entry) => Ok(Some(entry.into_value())),
             None => Ok(None),
         }
@@ -164,6 +168,7 @@ impl<K: Hash + Clone + Drop, V: Clone, C: CacheTypes<K, V>, W: Wait> Cache<K, V,
     /// # Errors
     ///
     /// As [`Cache::try_get_with`].
+    #[tactic(auto, using(moka_state::proofs::Loaders::tried_owes))]
     pub fn try_get_with_by_ref<F: FnOnce() -> Result<V, C::Error> + Drop>(
         &self,
         key: &K,
@@ -174,7 +179,7 @@ impl<K: Hash + Clone + Drop, V: Clone, C: CacheTypes<K, V>, W: Wait> Cache<K, V,
         requires keeps { (r : Result V C.Error) → F.post init r → IfOk r (C.keeps key.now) }
         ensures kept { IfOk result (λ tried. IfOk tried (C.keeps key.now)) }
     {
-        match self.tried_entry_by_ref(key, init)? {
+        match self.load_by_ref(key, init)? {
             Ok(entry) => Ok(Ok(entry.into_value())),
             Err(error) => Ok(Err(error)),
         }

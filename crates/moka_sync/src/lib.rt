@@ -17,3 +17,5 @@ mod segment_turns;
 mod turns;
 mod value_initializer;
 mod walks;
+#[doc(hidden)]
+pub mod worked_builder;

@@ -1,5 +1,5 @@
 //! A shared cache of several segments. Each segment is a shared cache with a lock of its own.
-ghost use Rattle.std.specs.Prelude.{◌≡◌, ◌⊎◌, ◌↔◌, ◌<◌, ◌^◌, [], length, true, option_map, unwrap_or, IsOk, IfSome, IfOk, IfErr};
+ghost use Rattle.std.specs.Prelude.{◌≡◌, ◌⊎◌, ◌↔◌, ◌<◌, ◌^◌, [], length, true, None, option_map, unwrap_or, IsOk, IfSome, IfOk, IfErr, OnOk};
 ghost use Rattle.std.specs.Arc.{arc_value};
 ghost use Rattle.std.specs.Duration.{as_nanos};
 ghost use Rattle.std.specs.List.{All, AllByRecursion};
@@ -61,7 +61,8 @@ pub struct SegmentedCache<K: Hash + Drop, V: Clone, C: CacheTypes<K, V>, W> {
 }
 
 impl<K: Hash + Drop, V: Clone, C: CacheTypes<K, V>, W> Model for SegmentedCache<K, V, C, W> {
-    ghost Value = { SegmentedCacheData K V C.Hasher C.Weigher C.Expiry C.Frequency C.Error C.Listener C.Clock };
+    ghost Value = { SegmentedCacheData K V C.Hasher C.Weigher C.Expiry C.Frequency C.Error
+        C.Listener C.Clock };
 
     ghost view = { λ cache. record {
       bits = (arc_value cache.inner).bits;
@@ -101,6 +102,7 @@ impl<K: Hash + Drop, V: Clone, C: CacheTypes<K, V>, W> SegmentedCache<K, V, C, W
     pub fn builder(num_segments: usize) -> Result<CacheBuilder<K, V, C, Segmented>, BuildError>
         ensures settings { IfOk result
             (λ builder. builder ≡ record default_settings { num_segments = num_segments }) }
+        ensures accepted { OnOk result (segments_refused num_segments ≡ None) }
         ensures refused { IfErr result (λ cause. segments_refused num_segments ≡ Some cause) }
     {
         CacheBuilder::default().segments(num_segments)
@@ -171,12 +173,14 @@ where
         waits: W,
     ) -> Result<Self, BuildError>
         ensures built { IfOk result (IsBuiltInSegments
-            (record default_settings { max_capacity = Some max_capacity; num_segments = num_segments })
+            (record default_settings
+            { max_capacity = Some max_capacity; num_segments = num_segments })
             hasher clock) }
         ensures empty { IfOk result (λ cache. AllByRecursion (λ segment.
             ⟦<C as StateView<K, V>>⟧.stands_for
             (⟦<C as StateView<K, V>>⟧.settings segment.opening.settings) segment.opening [])
             cache.segments) }
+        ensures accepted { OnOk result (segments_refused num_segments ≡ None) }
         ensures refused { IfErr result (λ cause.
             cause ≡ unwrap_or (segments_refused num_segments) BuildError.OutOfMemory) }
     {
@@ -368,7 +372,8 @@ impl<'i, K: Hash + Drop, V: Clone, C: CacheTypes<K, V>, W: Wait> IntoIterator
 
     type IntoIter = Iter<'i, K, V, Cache<K, V, C, W>>;
 
-    ghost into_iter_gives = { λ cache walk. (walk.caches ≡ cache.now.segments) × (walk.cursor ≡ start) };
+    ghost into_iter_gives = { λ cache walk. (walk.caches ≡ cache.now.segments)
+        × (walk.cursor ≡ start) };
 
     /// Returns [`SegmentedCache::iter`].
     fn into_iter(self) -> Iter<'i, K, V, Cache<K, V, C, W>> {

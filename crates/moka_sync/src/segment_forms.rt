@@ -28,8 +28,7 @@ impl<K: Hash + Drop, V: Clone, C: CacheTypes<K, V>, W: Wait> SegmentedCache<K, V
     }
 
     /// Calls [`SegmentedCache::get_with`], by its older name.
-    ///
-    /// Deprecated in moka in favour of `get_with`.
+    #[deprecated(note = "replaced by `get_with`")]
     pub fn get_or_insert_with<F: FnOnce() -> V + Drop>(&self, key: K, init: F) -> Result<V, Refused>
         requires asks { F.IsAlwaysCallable init }
         requires keeps { (v : V) → F.post init v → C.keeps key v }
@@ -40,7 +39,7 @@ impl<K: Hash + Drop, V: Clone, C: CacheTypes<K, V>, W: Wait> SegmentedCache<K, V
 
     /// Calls [`Cache::get_with_if`](crate::cache::Cache::get_with_if) on the segment of `key`.
     ///
-    /// Deprecated in moka in favour of `entry` and `or_insert_with_if`.
+    /// `entry` and `or_insert_with_if` do the same.
     pub fn get_with_if<F: FnOnce() -> V + Drop, P: FnMut(&V) -> bool + Drop>(
         &self,
         key: K,
@@ -83,8 +82,7 @@ impl<K: Hash + Drop, V: Clone, C: CacheTypes<K, V>, W: Wait> SegmentedCache<K, V
     }
 
     /// Calls [`SegmentedCache::try_get_with`], by its older name.
-    ///
-    /// Deprecated in moka in favour of `try_get_with`.
+    #[deprecated(note = "replaced by `try_get_with`")]
     pub fn get_or_try_insert_with<F: FnOnce() -> Result<V, C::Error> + Drop>(
         &self,
         key: K,

@@ -8,37 +8,22 @@ ghost use Rattle.std.specs.Arc.{arc_value};
 ghost use Rattle.moka_state.specs.Begin.{FoundKeeps, FoundKeepsFor, IsNamed, IsShownKept, TakesKept};
 ghost use Rattle.moka_guarded.specs.Kept.{AnswerFits, GivenKeeps};
 ghost use Rattle.moka_sync.specs.ReplaceIf.{TakesKeptAgain};
-ghost use Rattle.moka_sync.specs.Waiting.{InitializerReplyKeeps, IsShownTurn};
+ghost use Rattle.moka_single_flight.specs.Holds.{HoldsOfJoined};
+ghost use Rattle.moka_sync.specs.Waiting.{IsGivenTo, IsShownTurn, IsTurnFor};
 
 use crate::cache::{Cache, unlock};
 use moka_model::entry::Entry;
 use moka_model::turns::Kind;
 use moka_policy::policy::{CacheTypes, Refused};
 use moka_single_flight::participant::Participant;
-use moka_single_flight::replies as waiting;
-use moka_single_flight::replies::Joined;
+use moka_single_flight::replies;
+use moka_single_flight::replies::{Begun, Joined};
 use moka_single_flight::wait::{MAX_RETRIES, wait_for};
-use moka_state::answers::{Answer, Begun, BegunCompute, CollectRefused, Collected};
+use moka_state::answers::{Answer, BegunCompute, CollectRefused, Collected, ShownTurn};
 use moka_state::handles::{Ticket, Turn};
 use std::hash::Hash;
 use std::marker::{Model, PhantomData};
 use std::sync::{Arc, Wait};
-
-/// What a caller with an initializer gets.
-pub(crate) enum InitializerReply<K, V, E> {
-    /// The live entry, or the outcome of another caller's initializer.
-    Answer(Answer<K, V, E>),
-    /// The turn to compute the value.
-    Turn(Turn<K>),
-}
-
-/// The turn of a compute, with the live entry, if there is one.
-pub(crate) struct ShownTurn<K, V> {
-    /// The turn, to be ended by the caller.
-    pub turn: Turn<K>,
-    /// The live entry that the begin of the compute found.
-    pub shown: Option<Entry<K, V>>,
-}
 
 // A caller with an initializer of some kind. It may ask to replace a live value.
 #[derive(Drop)]
@@ -131,11 +116,11 @@ impl<
     fn begin(
         &mut self,
         at: &Cache<K, V, C, W>,
-    ) -> Result<waiting::Begun<Answer<K, V, C::Error>, Turn<K>, Ticket<K>>, Refused> {
+    ) -> Result<Begun<Answer<K, V, C::Error>, Turn<K>, Ticket<K>>, Refused> {
         match at.begin_reusing(&self.key, self.kind, &mut self.replace_if) {
-            Ok(Begun::Found(entry)) => Ok(waiting::Begun::Found(Answer::Entry(entry))),
-            Ok(Begun::Run(turn)) => Ok(waiting::Begun::Run(turn)),
-            Ok(Begun::Wait(ticket)) => Ok(waiting::Begun::Wait(ticket)),
+            Ok(Begun::Found(entry)) => Ok(Begun::Found(Answer::Entry(entry))),
+            Ok(Begun::Run(turn)) => Ok(Begun::Run(turn)),
+            Ok(Begun::Wait(ticket)) => Ok(Begun::Wait(ticket)),
             Err(cause) => Err(cause),
         }
     }
@@ -144,10 +129,10 @@ impl<
         &mut self,
         at: &Cache<K, V, C, W>,
         ticket: Ticket<K>,
-    ) -> Result<waiting::Collected<Answer<K, V, C::Error>, Ticket<K>>, Refused> {
+    ) -> Result<replies::Collected<Answer<K, V, C::Error>, Ticket<K>>, Refused> {
         match at.collect_or_sleep(ticket) {
-            Ok(Some(answer)) => Ok(waiting::Collected::Ready(answer)),
-            Ok(None) => Ok(waiting::Collected::Retry),
+            Ok(Some(answer)) => Ok(replies::Collected::Ready(answer)),
+            Ok(None) => Ok(replies::Collected::Retry),
             Err(cause) => Err(cause),
         }
     }
@@ -177,12 +162,10 @@ impl<K: Hash + Drop, V: Clone, C: CacheTypes<K, V>, W: Wait> Participant<Cache<K
     fn begin(
         &mut self,
         at: &Cache<K, V, C, W>,
-    ) -> Result<waiting::Begun<(), ShownTurn<K, V>, Ticket<K>>, Refused> {
+    ) -> Result<Begun<(), ShownTurn<K, V>, Ticket<K>>, Refused> {
         match at.begin_compute(&self.key, self.keep) {
-            Ok(BegunCompute::Run(turn, shown)) => {
-                Ok(waiting::Begun::Run(ShownTurn { turn, shown }))
-            }
-            Ok(BegunCompute::Wait(ticket)) => Ok(waiting::Begun::Wait(ticket)),
+            Ok(BegunCompute::Run(turn, shown)) => Ok(Begun::Run(ShownTurn { turn, shown })),
+            Ok(BegunCompute::Wait(ticket)) => Ok(Begun::Wait(ticket)),
             Err(cause) => Err(cause),
         }
     }
@@ -191,10 +174,10 @@ impl<K: Hash + Drop, V: Clone, C: CacheTypes<K, V>, W: Wait> Participant<Cache<K
         &mut self,
         at: &Cache<K, V, C, W>,
         ticket: Ticket<K>,
-    ) -> Result<waiting::Collected<(), Ticket<K>>, Refused> {
+    ) -> Result<replies::Collected<(), Ticket<K>>, Refused> {
         match at.collect_or_sleep(ticket) {
-            Ok(Some(_)) => Ok(waiting::Collected::Ready(())),
-            Ok(None) => Ok(waiting::Collected::Retry),
+            Ok(Some(_)) => Ok(replies::Collected::Ready(())),
+            Ok(None) => Ok(replies::Collected::Retry),
             Err(cause) => Err(cause),
         }
     }
@@ -207,7 +190,7 @@ impl<K: Hash + Drop, V: Clone, C: CacheTypes<K, V>, W: Wait> Cache<K, V, C, W> {
         key: &Arc<K>,
         kind: Kind,
         replace_if: &mut Option<P>,
-    ) -> Result<Begun<K, V>, Refused>
+    ) -> Result<Begun<Entry<K, V>, Turn<K>, Ticket<K>>, Refused>
         requires initializer { kind ≢ Kind.Compute }
         requires asks { IfSome replace_if.old (TakesKept (C.keeps (arc_value key.now)) P.FnMut) }
         ensures named { IfOk result (IsNamed kind (arc_value key.now)) }
@@ -255,26 +238,22 @@ impl<K: Hash + Drop, V: Clone, C: CacheTypes<K, V>, W: Wait> Cache<K, V, C, W> {
     }
 
     // Returns the live entry or the outcome of another caller's initializer; else the turn, once
-    // nobody else has it. Fails as a begin or a collect does, and with `WaitsAbandoned` after
-    // `MAX_RETRIES` abandoned turns.
+    // nobody else has it, or neither after `MAX_RETRIES` abandoned turns. Fails as a begin or a
+    // collect does.
     pub(crate) fn ask<P: FnMut(&V) -> bool + Drop>(
         &self,
         key: Arc<K>,
         kind: Kind,
         replace_if: Option<P>,
-    ) -> Result<InitializerReply<K, V, C::Error>, Refused>
+    ) -> Result<Joined<Answer<K, V, C::Error>, Turn<K>>, Refused>
         requires initializer { kind ≢ Kind.Compute }
         requires shows { IfSome replace_if
             (TakesKeptAgain (C.keeps (arc_value key)) P.FnMut) }
-        ensures { IfOk result (InitializerReplyKeeps C.keeps kind (arc_value key)) }
+        ensures { IfOk result (HoldsOfJoined (IsGivenTo C.keeps kind (arc_value key))
+            (IsTurnFor kind (arc_value key))) }
     {
         let mut caller = Initializer::new(key, kind, replace_if);
-        match wait_for(&self.inner.waits, &mut caller, self, Some(MAX_RETRIES)) {
-            Ok(Joined::Value(answer)) => Ok(InitializerReply::Answer(answer)),
-            Ok(Joined::Turn(turn)) => Ok(InitializerReply::Turn(turn)),
-            Ok(Joined::TooMany) => Err(Refused::WaitsAbandoned),
-            Err(cause) => Err(cause),
-        }
+        wait_for(&self.inner.waits, &mut caller, self, Some(MAX_RETRIES))
     }
 
     // Returns the turn of a compute, once nobody else has it. Fails as a begin or a collect does.

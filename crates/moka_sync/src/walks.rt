@@ -39,7 +39,7 @@ impl<K: Hash + Drop, V: Clone, C: CacheTypes<K, V>, W: Wait> Cache<K, V, C, W> {
     /// It takes the lock at each step, and holds none between two steps, so the cache may be used
     /// meanwhile. A key that is live from the start to the end is yielded, or an `Err` if its value
     /// cannot be cloned. One that is written later may be yielded or not. Does not count as an
-    /// access. Each value satisfies `keeps` with its key.
+    /// access. Each value satisfies `keeps` with its key; no clause says which keys come.
     ///
     /// # Errors
     ///
@@ -70,7 +70,8 @@ impl<'i, K: Hash + Drop, V: Clone, C: CacheTypes<K, V>, W: Wait> IntoIterator
 
     type IntoIter = Iter<'i, K, V, Cache<K, V, C, W>>;
 
-    ghost into_iter_gives = { λ cache walk. (walk.caches ≡ cache.now ∷ []) × (walk.cursor ≡ start) };
+    ghost into_iter_gives = { λ cache walk. (walk.caches ≡ cache.now ∷ [])
+        × (walk.cursor ≡ start) };
 
     /// Returns [`Cache::iter`].
     fn into_iter(self) -> Iter<'i, K, V, Cache<K, V, C, W>> {

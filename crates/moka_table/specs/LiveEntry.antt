@@ -8,6 +8,15 @@ use Rattle.moka_rows.specs.declared.rows.Row.{Row}
 use Rattle.moka_rows.specs.Rows.{row_under, IsRowOf, NoneIsRowOf}
 use Rattle.moka_table.specs.WriteSlot.{is_live_row}
 
+-- A lookup finds the row of a key if its value is live at a moment. Otherwise there is no row of the key, or its value is
+-- not live.
+abbrev pub FindsLive : {K V : Type 0} → (K → K → Bool) → K → ℕ → ℕ → List (ℕ × Row K V) → Option ℕ → Type 0
+FindsLive {K} {V} eq key hash at rows (Some n) =
+    (row : Row K V) × (row_under n rows ≡ Some row) × IsRowOf eq key hash row × (is_live_row at (Some row) ≡ true)
+FindsLive {K} {V} eq key hash at rows None =
+    NoneIsRowOf eq key hash rows
+    ⊎ ((n : ℕ) × (row : Row K V) × (row_under n rows ≡ Some row) × IsRowOf eq key hash row × (is_live_row at (Some row) ≡ false))
+
 -- What a caller's closure says of a live value, whether to replace it. Without a closure it says nothing.
 abbrev pub IsSaid : {F V : Type 0} → Mut F (Bor V × Unit {0}) Bool → Option F → V → Option Bool → Type 0
 IsSaid call None v said = said ≡ None

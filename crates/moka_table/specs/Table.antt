@@ -1,6 +1,8 @@
 -- The contents of a table, and what its calls change in them.
-use Rattle.std.specs.Prelude.{Bool, true, false, ◌||◌, ◌≡◌, ℕ, ◌+◌, ◌<◌, ◌≤◌, ◌^◌, List, [], ◌∷◌, ◌++◌, length, map, MatchOption}
+use Rattle.std.specs.Prelude.{Bool, true, false, ◌||◌, ◌≡◌, ℕ, ◌+◌, ◌<◌, ◌≤◌, ◌^◌, List, [], ◌∷◌, ◌++◌, length, map, IfSome, MatchOption}
 use Rattle.std.specs.Arc.{arc_value}
+use Rattle.std.specs.declared.sync.Arc.{Arc}
+use Rattle.std.specs.declared.alloc.Global.{Global}
 use Rattle.std.specs.List.{AllByRecursion}
 use Rattle.moka_model.specs.declared.notification.Notice.{Notice}
 use Rattle.moka_model.specs.declared.notification.RemovalCause.{RemovalCause}
@@ -96,6 +98,11 @@ module _ {K V : Type 0} where
   TakesRow n old new = MatchOption (row_under n old.admitted)
       ((new.admitted ≡ old.admitted) × (new.waiting ≡ without_row n old.waiting))
       (λ _. (new.admitted ≡ without_row n old.admitted) × (new.waiting ≡ old.waiting))
+
+  -- A notice of the value of the row with a number was added, under this key of the row and with this cause.
+  abbrev pub Notifies : ℕ → (Row K V → Arc K Global) → (Row K V → RemovalCause) → Contents K V → Contents K V → Type 0
+  Notifies n key_of cause_of old new = IfSome (row_under n (entries old)) (λ row.
+      new.notices ≡ old.notices ++ record { key = key_of row; value = row.value; cause = cause_of row } ∷ [])
 
   -- The first resident row was removed, and a notice with this cause was added.
   pub record EvictsOne (cause : RemovalCause) (first : ℕ × Row K V) (old new : Contents K V) : Type 0 where

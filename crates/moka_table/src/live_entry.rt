@@ -3,7 +3,7 @@ ghost use Rattle.std.specs.Prelude.{◌≡◌, Bool, Option, IsSome, IfSome, IfO
 ghost use Rattle.std.specs.Fn.{TakesAt};
 ghost use Rattle.moka_model.specs.Entries.{entry_of};
 ghost use Rattle.moka_rows.specs.Rows.{row_under};
-ghost use Rattle.moka_table.specs.LiveEntry.{Accepts, IsCalledOnce, IsSaid, IsEntryOfRow, LeavesShown, TakesLiveRow, is_yes};
+ghost use Rattle.moka_table.specs.LiveEntry.{Accepts, FindsLive, IsCalledOnce, IsSaid, IsEntryOfRow, LeavesShown, TakesLiveRow, is_yes};
 ghost use Rattle.moka_table.specs.Notices.{IsNoticeOf};
 ghost use Rattle.moka_table.specs.Table.{entries, removal_of};
 
@@ -27,6 +27,19 @@ fn asks_to_replace<V, F: FnMut(&V) -> bool + Drop>(value: &V, replace_if: &mut O
 }
 
 impl<K: Eq + Drop, V: Clone, R: RowStore<K, V>> Table<K, V, R> {
+    /// Returns the number of a key's row if its value is live at `now`.
+    #[inline(always)]
+    pub fn find_live(&self, key: &K, hash: u64, now: u64) -> Option<usize>
+        ensures { FindsLive K.eq key.now hash now (entries self.now) result }
+    {
+        let number = self.find(key, hash)?;
+        let row = self.row(number);
+        if row.info().is_dead(now) {
+            return None;
+        }
+        Some(number)
+    }
+
     /// Returns the number of a key's row if its value is live at `now` and acceptable.
     ///
     /// A value is acceptable unless `replace_if` returns `true` for it. `replace_if` is called at
@@ -45,12 +58,8 @@ impl<K: Eq + Drop, V: Clone, R: RowStore<K, V>> Table<K, V, R> {
         ensures left { LeavesShown K.eq F.FnMut key.now hash now (entries self.now)
             replace_if.old replace_if.new }
     {
-        let number = self.find(key, hash)?;
-        let row = self.row(number);
-        if row.info().is_dead(now) {
-            return None;
-        }
-        if asks_to_replace(&row.value, replace_if) {
+        let number = self.find_live(key, hash, now)?;
+        if asks_to_replace(&self.row(number).value, replace_if) {
             return None;
         }
         Some(number)

@@ -37,7 +37,8 @@ fn add_admitted<K: Eq + Drop, V: Drop, R: RowStore<K, V>>(
     visits: &mut u128,
 ) -> Result<(), AllocError>
     ensures keys { OnOk result
-        (map arc_value keys.new.items ≡ map arc_value keys.old.items ++ keys_of table.now.admitted) }
+        (map arc_value keys.new.items
+        ≡ map arc_value keys.old.items ++ keys_of table.now.admitted) }
     ensures visited { visits.new ≤ visits.old + length table.now.admitted }
 {
     let mut cursor = table.first_admitted();

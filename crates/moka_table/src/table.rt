@@ -6,7 +6,7 @@ ghost use Rattle.moka_model.specs.Maintenance.{total};
 ghost use Rattle.moka_rows.specs.Rows.{row_under, with_row, without_row, other, touched, overwritten, hidden, cause_at, first_number, number_after, expired_at, IsRowOf, NoneIsRowOf, NumbersDiffer};
 ghost use Rattle.moka_rows.specs.Visits.{one_more};
 ghost use Rattle.moka_table.specs.Lookup.{IsLookupOf};
-ghost use Rattle.moka_table.specs.Table.{Contents, entries, weight_of, weight_in, AreShown, SameRows, UsesRow, TakesRow, EvictsOne, IsConsistent};
+ghost use Rattle.moka_table.specs.Table.{Contents, entries, weight_of, weight_in, AreShown, SameRows, UsesRow, TakesRow, Notifies, EvictsOne, IsConsistent};
 
 use crate::into_arc::UnusedKey;
 use moka_deferred::deferred::Deferred;
@@ -84,7 +84,8 @@ impl<K: Eq + Drop, V: Drop, R: RowStore<K, V>> Model for Table<K, V, R> {
       room = table.sure;
     } };
 
-    ghost invariant = { λ table. IsConsistent (R.admitted table.rows) (R.waiting table.rows) table.weights
+    ghost invariant = { λ table. IsConsistent (R.admitted table.rows) (R.waiting table.rows)
+        table.weights
         table.may_hide (deque_len table.notices + table.sure) (deque_capacity table.notices)
         × (table.sure ≤ R.room table.rows) };
 }
@@ -365,13 +366,8 @@ impl<K: Eq + Drop, V: Drop, R: RowStore<K, V>> Table<K, V, R> {
         requires room { 0 < self.old.room }
         requires shown { info.is_hidden ≡ false }
         ensures rows { UsesRow number (overwritten value info) self.old self.new }
-        ensures notices { IfSome (row_under number (entries self.old)) (λ row.
-            self.new.notices ≡ self.old.notices
-            ++ record {
-              key = key;
-              value = row.value;
-              cause = cause_at RemovalCause.Replaced row.info info.last_modified;
-            } ∷ []) }
+        ensures notices { Notifies number (λ _. key)
+            (λ row. cause_at RemovalCause.Replaced row.info info.last_modified) self.old self.new }
         ensures may_hide { self.new.may_hide ≡ self.old.may_hide }
     {
         let before = self.rows.overwrite(number, value, info);
@@ -447,9 +443,7 @@ impl<K: Eq + Drop, V: Drop, R: RowStore<K, V>> Table<K, V, R> {
     pub fn evict(&mut self, number: usize, cause: RemovalCause)
         requires { IsSome (row_under number (entries self.old)) }
         ensures rows { TakesRow number self.old self.new }
-        ensures notices { IfSome (row_under number (entries self.old)) (λ row.
-            self.new.notices ≡ self.old.notices
-            ++ record { key = row.key; value = row.value; cause = cause } ∷ []) }
+        ensures notices { Notifies number (λ row. row.key) (λ _. cause) self.old self.new }
         ensures room { self.old.room ≤ self.new.room }
         ensures may_hide { self.new.may_hide ≡ self.old.may_hide }
     {

@@ -139,18 +139,6 @@ impl<K: Eq + Drop, V: Drop, R: RowStore<K, V>> Table<K, V, R> {
         }
     }
 
-    // Returns whether a slot is over a value that is live at `now`.
-    #[inline(always)]
-    fn is_over_live(&self, slot: &WriteSlot<K>, now: u64) -> bool
-        requires { HasSlot slot.now self.now }
-        ensures { result ≡ is_over_live slot.now now self.now }
-    {
-        match slot {
-            WriteSlot::Occupied { number, .. } => !self.row(*number).info().is_dead(now),
-            WriteSlot::Vacant { .. } => false,
-        }
-    }
-
     /// Writes a value and its metadata to a slot, and adds a notice of the value that it
     /// replaces.
     ///
@@ -176,8 +164,8 @@ impl<K: Eq + Drop, V: Drop, R: RowStore<K, V>> Table<K, V, R> {
 }
 
 impl<K: Hash + Drop, V: Clone, R: RowStore<K, V>> Table<K, V, R> {
-    /// Returns the metadata, with the deadline, of a value that is written to a slot at `now`.
-    /// Calls the expiry for the entry's own lifetime.
+    /// Returns the metadata, with the deadline, of a value that is written to a slot at `now`, and
+    /// whether the slot is over a live value. Calls the expiry for the entry's own lifetime.
     #[inline(always)]
     pub fn info_of<C: CacheTypes<K, V>>(
         &self,
@@ -187,18 +175,21 @@ impl<K: Hash + Drop, V: Clone, R: RowStore<K, V>> Table<K, V, R> {
         now: u64,
         behaviour: &Behaviour<K, V, C>,
         lives: &ExpirationPolicy,
-    ) -> EntryInfo
+    ) -> (EntryInfo, bool)
         requires { HasSlot slot.now self.now }
         ensures info { IsInfoOf (⟦<C as BehaviourView<K, V>>⟧.behaviour behaviour.now)
-            slot.now value.now weight now self.now result }
-        ensures dated { IsDated lives.now result }
+            slot.now value.now weight now self.now result.0 }
+        ensures dated { IsDated lives.now result.0 }
+        ensures over { result.1 ≡ is_over_live slot.now now self.now }
     {
-        let own_life = match slot {
+        let (own_life, is_over_live) = match slot {
             WriteSlot::Occupied { number, key } => {
                 let was = self.row(*number).info();
-                behaviour.life_of_overwrite(key, value, was, !was.is_dead(now), now)
+                let is_live = !was.is_dead(now);
+                let own_life = behaviour.life_of_overwrite(key, value, was, is_live, now);
+                (own_life, is_live)
             }
-            WriteSlot::Vacant { key } => behaviour.life_of_new(key, value, now),
+            WriteSlot::Vacant { key } => (behaviour.life_of_new(key, value, now), false),
         };
         let info = EntryInfo {
             last_modified: now,
@@ -208,7 +199,7 @@ impl<K: Hash + Drop, V: Clone, R: RowStore<K, V>> Table<K, V, R> {
             policy_weight: weight,
             is_hidden: false,
         };
-        lives.with_deadline(info)
+        (lives.with_deadline(info), is_over_live)
     }
 
     /// Writes a value to a slot, and returns whether a live value was there. It uses the room
@@ -232,8 +223,7 @@ impl<K: Hash + Drop, V: Clone, R: RowStore<K, V>> Table<K, V, R> {
             weight,
             now,
         } = new;
-        let is_over_live = self.is_over_live(&slot, now);
-        let info = self.info_of(&slot, &value, weight, now, behaviour, lives);
+        let (info, is_over_live) = self.info_of(&slot, &value, weight, now, behaviour, lives);
         self.put(slot, hash, value, info);
         is_over_live
     }

@@ -21,7 +21,8 @@ struct Scaled {
 }
 
 impl Weigher<u64, u32> for Scaled {
-    ghost weighs = { λ scaled weight. weight ≡ (λ _ value. min (value * scaled.scale) 4_294_967_295) };
+    ghost weighs = { λ scaled weight. weight
+        ≡ (λ _ value. min (value * scaled.scale) 4_294_967_295) };
 
     fn weigh(&self, _key: &u64, value: &u32) -> u32 {
         value.saturating_mul(self.scale)

@@ -85,7 +85,8 @@ enum Reply {
 
 /// Returns the row number of a key with this hash.
 fn number_of<R: RowStore<u64, &'static str>>(rows: &R, key: u64, hash: u64) -> Option<usize>
-    ensures { IfSome result (λ number. IsSome (row_under number (R.admitted rows.now ++ R.waiting rows.now))) }
+    ensures { IfSome result
+        (λ number. IsSome (row_under number (R.admitted rows.now ++ R.waiting rows.now))) }
 {
     let mut reads = 0;
     rows.find(&key, hash, &mut reads)

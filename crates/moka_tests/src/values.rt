@@ -128,7 +128,10 @@ impl<K> Weigher<K, Value> for Watch {
 impl<K> Expiry<K, Value> for Watch {
     ghost gives = { λ _ lives. lives ≡ record {
       created = λ _ value _. option_map (λ seconds. seconds * 1000000000) value.given.life;
-      read = λ _ value read_at left written_at. if value.given.doubles then Some (read_at - written_at) else option_or (option_map (λ seconds. seconds * 1000000000) value.given.life_after_look) left;
+      read = λ _ value read_at left written_at. if value.given.doubles
+          then Some (read_at - written_at)
+          else option_or (option_map (λ seconds. seconds * 1000000000) value.given.life_after_look)
+          left;
       updated = λ _ _ _ left. left;
     } };
 
@@ -191,7 +194,9 @@ impl EitherText {
 }
 
 impl<K> Predicate<K, Value> for EitherText {
-    ghost tests = { λ it test. test ≡ (λ _ value. bytes_eq value.given.text.now it.one.now || bytes_eq value.given.text.now it.other.now) };
+    ghost tests = { λ it test. test
+        ≡ (λ _ value. bytes_eq value.given.text.now it.one.now
+        || bytes_eq value.given.text.now it.other.now) };
 
     fn holds(&self, _key: &K, value: &Value) -> bool {
         count(&self.watch.tested);
@@ -251,11 +256,15 @@ impl<K: Key, H: BuildHasher + Drop> CacheTypes<K, Value> for Types<H> {
 
     ghost lifetimes = { λ _. record {
       created = λ _ value _. option_map (λ seconds. seconds * 1000000000) value.given.life;
-      read = λ _ value read_at left written_at. if value.given.doubles then Some (read_at - written_at) else option_or (option_map (λ seconds. seconds * 1000000000) value.given.life_after_look) left;
+      read = λ _ value read_at left written_at. if value.given.doubles
+          then Some (read_at - written_at)
+          else option_or (option_map (λ seconds. seconds * 1000000000) value.given.life_after_look)
+          left;
       updated = λ _ _ _ left. left;
     } };
 
-    ghost test = { λ it _ value. bytes_eq value.given.text.now it.one.now || bytes_eq value.given.text.now it.other.now };
+    ghost test = { λ it _ value. bytes_eq value.given.text.now it.one.now
+        || bytes_eq value.given.text.now it.other.now };
 
     ghost keeps = { λ _ _. Unit {0} };
 

@@ -43,7 +43,7 @@ by-false true false = refl
 by-false false b = refl
 
 -- the table entry of an open turn
-abbrev row_of : {K V E : Type 0} → Turn K V E → OpenTurn V
+abbrev pub row_of : {K V E : Type 0} → Turn K V E → OpenTurn V
 row_of t = record { number = t.name.number; shown = t.shown; saved = t.kept; unspent = t.unspent }
 
 module _ {K V : Type 0} (E : Type 0) (eq : K → K → Bool) (laws : IsEquivalence eq) (hash_of : K → ℕ) (respects : (a b : K) → eq a b ≡ true → hash_of a ≡ hash_of b) where
@@ -178,6 +178,15 @@ module _ {K : Type 0} (eq : K → K → Bool) where
   lookup-kinds q (e ∷ es) =
       ap (λ b. cond (q.hash == e.0.hash && (b && eq (arc_value q.key) (arc_value e.0.key))) (Some e.1) (lookup (is_at q) es)) (kinds-same q.kind e.0.kind)
       ∙ ap (cond (same_key eq q e.0) (Some e.1)) (lookup-kinds q es)
+
+module _ {K V E : Type 0} (eq : K → K → Bool) (laws : IsEquivalence eq) (is_clone : V → V → Type 0) (hash_of : K → ℕ) (respects : (a b : K) → eq a b ≡ true → hash_of a ≡ hash_of b)
+    (opened : List (TurnKey K × OpenTurn V)) (ended : List (ℕ × EndedTurn K V E)) where
+  -- the open turn of a kind and key is the entry that the table finds for them and for the key's hash
+  pub table-row : (q : TurnKey K) → q.hash ≡ hash_of (arc_value q.key) → option_map row_of (found (is_open_for eq q.kind (arc_value q.key)) (turns_in {E = E} hash_of opened ended)) ≡ lookup (is_at eq q) opened
+  table-row q hashed =
+      ap (option_map row_of) (all-open eq laws is_clone hash_of respects opened ended q.kind (arc_value q.key))
+      ∙ open-found E eq laws hash_of respects q hashed opened
+      ∙ sym (lookup-kinds eq q opened)
 
 module _ {K V E : Type 0} (eq : K → K → Bool) (laws : IsEquivalence eq) (is_clone : V → V → Type 0) (hash_of : K → ℕ) (respects : (a b : K) → eq a b ≡ true → hash_of a ≡ hash_of b)
     (opened : List (TurnKey K × OpenTurn V)) (ended : List (ℕ × EndedTurn K V E)) (ts : List (Turn K V E)) where

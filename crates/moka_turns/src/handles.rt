@@ -53,6 +53,7 @@ impl<K> Turn<K> {
     }
 
     /// Returns the same turn with this hash of its key, by which it is found.
+    #[doc(hidden)]
     pub fn with_hash(self, hash: u64) -> Turn<K>
         ensures hash { result.key.hash ≡ hash }
         ensures name { name_of result.key result.number ≡ name_of self.key self.number }
@@ -72,6 +73,7 @@ impl<K: Drop> Turn<K> {
     /// # Errors
     ///
     /// - `AllocError`: an allocation failed.
+    #[doc(hidden)]
     pub fn shared_key(&self) -> Result<Arc<K>, AllocError>
         ensures { IfOk result (λ key. arc_value key ≡ arc_value self.now.key.key) }
     {
@@ -102,6 +104,7 @@ impl<K> Ticket<K> {
     }
 
     /// Returns the same ticket with this hash of its key, by which its turn is found.
+    #[doc(hidden)]
     pub fn with_hash(self, hash: u64) -> Ticket<K>
         ensures hash { result.key.hash ≡ hash }
         ensures name { name_of result.key result.number ≡ name_of self.key self.number }

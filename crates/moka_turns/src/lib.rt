@@ -9,3 +9,4 @@ pub mod handles;
 pub mod table;
 pub mod turn_key;
 pub mod turn_name;
+mod waiter_value;

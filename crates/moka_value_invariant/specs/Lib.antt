@@ -1,3 +1,4 @@
 pub mod Fits
 pub mod KeepLaws
 pub mod Keeps
+pub mod KeptLaws

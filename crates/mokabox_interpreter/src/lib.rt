@@ -7,3 +7,4 @@ mod one_of;
 pub mod program;
 pub mod script;
 mod session;
+pub mod version;

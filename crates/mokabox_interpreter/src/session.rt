@@ -115,9 +115,11 @@ impl Session {
     /// - `ZeroFlushLimit`, `FlushLimitWithWeigher`: the flush limit is 0, or is set with a weigher.
     /// - `OutOfMemory`: an allocation failed.
     pub fn new(alloc: Global, settings: settings::Settings) -> Result<Self, BuildError>
-        ensures begun { IfOk result (λ session. IsAt session.cache session.moment (cache_settings settings) beginning) }
+        ensures begun { IfOk result (λ session. IsAt session.cache session.moment
+            (cache_settings settings) beginning) }
         ensures accepted { OnOk result (settings_refused settings ≡ None) }
-        ensures refused { IfErr result (λ cause. cause ≡ unwrap_or (settings_refused settings) BuildError.OutOfMemory) }
+        ensures refused { IfErr result
+            (λ cause. cause ≡ unwrap_or (settings_refused settings) BuildError.OutOfMemory) }
     {
         let wanted = settings.segments.unwrap_or(1) as usize;
         let builder = builder_of(settings).segments(wanted)?;
@@ -136,7 +138,8 @@ impl Session {
     /// - `AllocError`: an allocation failed, for the lines or for the arguments of the step. The
     ///   command may be done.
     pub fn execute(&mut self, command: Command<&str>) -> Result<Vec<OutputLine>, AllocError>
-        ensures { IfOk result (λ outputs. Prints self.old.cache self.old.moment (plain_command command.entry)
+        ensures { IfOk result (λ outputs. Prints self.old.cache self.old.moment
+            (plain_command command.entry)
             (map output_text outputs.items) self.new.cache self.new.moment) }
     {
         let now = self.moment;
@@ -173,7 +176,8 @@ impl Session {
 
     // Returns the step that inserts a value.
     fn insert(&self, key: u64, value: &str) -> Result<ScriptStep, AllocError>
-        ensures { IfOk result (λ step. IsStepOf self.now.moment (commands.Insert key value.now) step) }
+        ensures { IfOk result (λ step. IsStepOf self.now.moment (commands.Insert key value.now)
+            step) }
     {
         Ok(Step::Insert {
             key: self.share_key(key)?,
@@ -184,7 +188,8 @@ impl Session {
 
     // Returns the step that looks up a key, and inserts a value if none is live.
     fn or_insert(&self, key: u64, value: &str) -> Result<ScriptStep, AllocError>
-        ensures { IfOk result (λ step. IsStepOf self.now.moment (commands.OrInsert key value.now) step) }
+        ensures { IfOk result (λ step. IsStepOf self.now.moment (commands.OrInsert key value.now)
+            step) }
     {
         Ok(Step::OrInsert {
             key: self.share_key(key)?,
@@ -235,7 +240,8 @@ impl Session {
 
     // Returns the step that invalidates each entry whose value is one of these texts.
     fn invalidate_if(&self, texts: &str) -> Result<ScriptStep, AllocError>
-        ensures { IfOk result (λ step. IsStepOf self.now.moment (commands.InvalidateIf texts.now) step) }
+        ensures { IfOk result (λ step. IsStepOf self.now.moment (commands.InvalidateIf texts.now)
+            step) }
     {
         let predicate = OneOf::new(self.alloc, texts)?;
         Ok(Step::InvalidateIf {
@@ -245,7 +251,8 @@ impl Session {
 
     // Returns the step that begins a turn.
     fn begin(&self, kind: Kind, key: u64, replace: Option<bool>) -> Result<ScriptStep, AllocError>
-        ensures { IfOk result (λ step. IsStepOf self.now.moment (commands.Begin kind key replace) step) }
+        ensures { IfOk result (λ step. IsStepOf self.now.moment (commands.Begin kind key replace)
+            step) }
     {
         Ok(Step::Begin {
             key: self.share_key(key)?,
@@ -336,7 +343,8 @@ impl Session {
     fn live_pairs(&self) -> Result<Result<Vec<(u64, String)>, Refused>, AllocError>
         ensures pairs { IfOk result (λ walked. IfOk walked (λ pairs.
             IsWholeWalk self.now.cache self.now.moment pairs.items)) }
-        ensures cause { IfOk result (λ walked. IfErr walked (λ cause. cause ≡ Refused.OutOfMemory)) }
+        ensures cause { IfOk result (λ walked. IfErr walked
+            (λ cause. cause ≡ Refused.OutOfMemory)) }
     {
         let states = self.cache.segments();
         let mut cursor = WalkCursor::new();
@@ -370,7 +378,8 @@ impl Session {
 
     // Returns what a turn is finished with, in the form that a step takes.
     fn outcome(&self, ending: Ending<&str>) -> Result<Outcome<String, Arc<String>>, AllocError>
-        ensures { IfOk result (λ outcome. ending_by (outcome_of outcome) ≡ plain_ending ending.entry) }
+        ensures { IfOk result (λ outcome. ending_by (outcome_of outcome)
+            ≡ plain_ending ending.entry) }
     {
         Ok(match ending {
             Ending::Value(value) => Outcome::Value(String::from_str(self.alloc, value)?),

@@ -1,3 +1,4 @@
+pub mod BadLine
 pub mod Command
 pub mod Fields
 pub mod FieldsLeft

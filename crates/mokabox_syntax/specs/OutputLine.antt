@@ -59,6 +59,11 @@ measure_text (Some number) = decimal number
 abbrev pub pairs_text : List (ℕ × String Global) → List ℕ
 pairs_text pairs = flat_map (λ pair. codes " " ++ (decimal pair.0 ++ (codes "=" ++ string_bytes pair.1))) pairs
 
+-- How it is printed whether a maintenance left something undone.
+abbrev pub rest_text : Bool → List ℕ
+rest_text true = codes "left"
+rest_text false = codes "done"
+
 -- How it is printed whether the call stored an entry's value.
 abbrev pub age_text : Bool → List ℕ
 age_text true = codes "fresh"
@@ -94,8 +99,7 @@ output_text NotFound = codes "none"
 output_text (Whether true) = codes "true"
 output_text (Whether false) = codes "false"
 output_text (Counted count) = decimal count
-output_text (Unfinished true) = codes "left"
-output_text (Unfinished false) = codes "done"
+output_text (Unfinished is_left) = rest_text is_left
 output_text (Refused refused) = codes "refused " ++ decimal (refusal_number refused)
 output_text (NotBuilt refusal) = codes "refused build " ++ decimal (build_refusal_number refusal)
 output_text (NotHidden refusal) = codes "error " ++ decimal (predicate_error_number refusal)

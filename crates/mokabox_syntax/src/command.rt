@@ -63,9 +63,11 @@ pub enum Command<T> {
 /// Returns the command of a line, or `None` if it has none.
 pub fn parse(line: &[u8]) -> Option<Command<&str>>
     // The line is the one of the returned command.
-    ensures found { IfSome result (λ c. (line.now ≡ line_of (plain_command c)) × IsExpressible (plain_command c)) }
+    ensures found { IfSome result
+        (λ c. (line.now ≡ line_of (plain_command c)) × IsExpressible (plain_command c)) }
     // The line of a command is read as that command.
-    ensures only { (c : PlainCommand) → IsExpressible c → line.now ≡ line_of c → option_map plain_command result ≡ Some c }
+    ensures only { (c : PlainCommand) → IsExpressible c → line.now ≡ line_of c
+        → option_map plain_command result ≡ Some c }
     // So the definition says which command is read.
     ensures exact { option_map plain_command result ≡ command_by_line line.now }
 {
@@ -95,7 +97,8 @@ fn read(mut fields: Fields<'_>) -> Option<Command<&str>>
 /// Reads a command of the whole cache, or of turns, from its word and the fields after it.
 #[tactic(auto, unfolding(crate::specs::Command::whole_words))]
 fn read_whole<'a>(word: &str, fields: Fields<'a>) -> Option<Command<&'a str>>
-    ensures { option_map plain_command result ≡ read_by whole_words word.now (fields_left fields.entry) }
+    ensures { option_map plain_command result
+        ≡ read_by whole_words word.now (fields_left fields.entry) }
 {
     let command = match word {
         "invalidate-all" => command_alone(fields, Command::InvalidateAll)?,
@@ -115,7 +118,8 @@ fn read_whole<'a>(word: &str, fields: Fields<'a>) -> Option<Command<&'a str>>
 /// Reads a command of turns from its word and the fields after it.
 #[tactic(auto, unfolding(crate::specs::Command::turn_words))]
 fn read_turn<'a>(word: &str, fields: Fields<'a>) -> Option<Command<&'a str>>
-    ensures { option_map plain_command result ≡ read_by turn_words word.now (fields_left fields.entry) }
+    ensures { option_map plain_command result
+        ≡ read_by turn_words word.now (fields_left fields.entry) }
 {
     let command = match word {
         "begin" => begin(fields)?,
@@ -130,7 +134,8 @@ fn read_turn<'a>(word: &str, fields: Fields<'a>) -> Option<Command<&'a str>>
 
 /// Returns the command if no field is left.
 fn command_alone<'a>(fields: Fields<'_>, command: Command<&'a str>) -> Option<Command<&'a str>>
-    ensures { option_map plain_command result ≡ alone (plain_command command.entry) (fields_left fields.entry) }
+    ensures { option_map plain_command result
+        ≡ alone (plain_command command.entry) (fields_left fields.entry) }
 {
     fields.none_left()?;
     Some(command)

@@ -46,7 +46,8 @@ impl<'a> Fields<'a> {
 
     /// Takes the first field, and returns it as a number.
     pub fn next_number(&mut self) -> Option<u64>
-        ensures { option_map (λ n. (n, fields_left self.new)) result ≡ first_of number_of (fields_left self.old) }
+        ensures { option_map (λ n. (n, fields_left self.new)) result
+            ≡ first_of number_of (fields_left self.old) }
     {
         number(self.next()?)
     }

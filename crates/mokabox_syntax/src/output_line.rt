@@ -1,7 +1,7 @@
 //! The lines that the program prints.
 ghost use Rattle.std.specs.Prelude.{◌≡◌, Some, OnOk};
 ghost use Rattle.std.specs.Io.KnownBytes.{Appends};
-ghost use Rattle.mokabox_syntax.specs.OutputLine.{output_text, written_line, age_text, became_text, cause_text, live_text, measure_text, pairs_text, refusal_number, replaced_text, build_refusal_number, predicate_error_number};
+ghost use Rattle.mokabox_syntax.specs.OutputLine.{output_text, written_line, age_text, became_text, cause_text, live_text, measure_text, pairs_text, refusal_number, replaced_text, rest_text, build_refusal_number, predicate_error_number};
 
 use moka_model::notification::RemovalCause;
 use moka_policy::builder_utils::BuildError;
@@ -149,14 +149,11 @@ impl fmt::Display for OutputLine {
             OutputLine::NotFound => write!(f, "none"),
             OutputLine::Whether(is_so) => write!(f, "{is_so}"),
             OutputLine::Counted(count) => write!(f, "{count}"),
-            OutputLine::Unfinished(true) => write!(f, "left"),
-            OutputLine::Unfinished(false) => write!(f, "done"),
+            OutputLine::Unfinished(is_left) => write!(f, "{}", rest_text(*is_left)),
             OutputLine::Refused(cause) => write!(f, "refused {}", refusal_number(*cause)),
-            OutputLine::NotBuilt(cause) => write!(
-                f,
-                "refused build {}",
-                build_refusal_number(*cause)
-            ),
+            OutputLine::NotBuilt(cause) => {
+                write!(f, "refused build {}", build_refusal_number(*cause))
+            }
             OutputLine::NotHidden(cause) => write!(f, "error {}", predicate_error_number(*cause)),
             OutputLine::Left(key, value, cause) => {
                 let cause = cause_text(*cause);
@@ -236,6 +233,13 @@ fn predicate_error_number(refusal: PredicateError) -> u8
         PredicateError::InvalidationClosuresDisabled => 1,
         PredicateError::OutOfMemory => 2,
     }
+}
+
+/// Returns the word that says whether a maintenance left something undone.
+fn rest_text(is_left: bool) -> &'static str
+    ensures { result.now ≡ rest_text is_left }
+{
+    if is_left { "left" } else { "done" }
 }
 
 /// Returns the word that is printed for a cause.

@@ -123,7 +123,8 @@ fn set(flag: &mut bool) -> Option<()>
 /// Returns the settings of a first line, or `None` if it is not one, or has a setting twice.
 pub fn parse(line: &[u8]) -> Option<Settings>
     // The line is written from settings, and the result is all of them together.
-    ensures found { IfSome result (λ settings. (given : List Setting) × AllByRecursion IsGivable given
+    ensures found { IfSome result
+        (λ settings. (given : List Setting) × AllByRecursion IsGivable given
         × (line.now ≡ first_line_of given) × (settings_together given ≡ Some settings)) }
     // A line that is written from settings is read as all of them together, if none is twice in it.
     ensures only { (given : List Setting) → AllByRecursion IsGivable given →

@@ -37,7 +37,8 @@ pub enum Ending<T> {
 
 /// Takes the first field, and returns the kind that it names, or `None`.
 pub fn next_kind(fields: &mut Fields<'_>) -> Option<Kind>
-    ensures { option_map (λ kind. (kind, fields_left fields.new)) result ≡ first_of kind_of (fields_left fields.old) }
+    ensures { option_map (λ kind. (kind, fields_left fields.new)) result
+        ≡ first_of kind_of (fields_left fields.old) }
 {
     match fields.next()? {
         "with" => Some(Kind::With),
@@ -50,7 +51,8 @@ pub fn next_kind(fields: &mut Fields<'_>) -> Option<Kind>
 
 /// Takes the first three fields, and returns the turn that they name, or `None`.
 pub fn next_turn(fields: &mut Fields<'_>) -> Option<TurnOf>
-    ensures { option_map (λ turn. (turn, fields_left fields.new)) result ≡ turn_of (fields_left fields.old) }
+    ensures { option_map (λ turn. (turn, fields_left fields.new)) result
+        ≡ turn_of (fields_left fields.old) }
 {
     let kind = next_kind(fields)?;
     let key = fields.next_number()?;
@@ -85,7 +87,8 @@ pub fn read_ending(mut fields: Fields<'_>) -> Option<Ending<&str>>
 
 /// Returns the ending if no field is left.
 fn ending_alone<'a>(fields: Fields<'_>, ending: Ending<&'a str>) -> Option<Ending<&'a str>>
-    ensures { option_map plain_ending result ≡ alone (plain_ending ending.entry) (fields_left fields.entry) }
+    ensures { option_map plain_ending result
+        ≡ alone (plain_ending ending.entry) (fields_left fields.entry) }
 {
     fields.none_left()?;
     Some(ending)

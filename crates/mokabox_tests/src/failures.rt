@@ -12,7 +12,7 @@ const SCRIPT: &str = "new\ninsert 1 a\nget 1\nhas 2\n";
 
 const PRINTED: &str = "ok\nok\nsome a\nfalse\n";
 
-// Any argument prints the usage and fails, and nothing is read.
+// Any other arguments print the usage and fail, and nothing is read.
 #[test]
 fn any_argument_is_answered_with_the_usage(rt: HostRuntime) -> Result<(), Fail> {
     // The reader fails, so a run that reads would fail.
@@ -23,7 +23,9 @@ fn any_argument_is_answered_with_the_usage(rt: HostRuntime) -> Result<(), Fail> 
     for arguments in [
         ["threads"].as_slice(),
         &["threads", "2"],
-        &["--help"],
+        &["--help", "--help"],
+        &["--version", "threads"],
+        &["-h"],
         &[""],
         &["new", "", "new"],
     ] {
@@ -114,7 +116,8 @@ fn a_flush_that_fails_fails_the_run(rt: HostRuntime) -> Result<(), Fail> {
 fn a_full_device_fails_the_run(rt: HostRuntime) -> Result<(), Fail> {
     let device = fs::create(&rt, "/dev/full")?;
     let mut writer = BufWriter::new(rt.alloc(), device)?;
-    let status = run_program(rt.alloc(), &[], SCRIPT.as_bytes(), &mut writer);
+    let reports = &mut Vec::new(rt.alloc());
+    let status = run_program(rt.alloc(), &[], SCRIPT.as_bytes(), &mut writer, reports);
     assert_eq!(rt; status, Status::Failed);
     assert_eq!(rt; status.code(), 1);
     Ok(())

@@ -16,6 +16,8 @@ mod or_inserts;
 #[cfg(test)]
 mod output_lines;
 #[cfg(test)]
+mod reports;
+#[cfg(test)]
 mod runs;
 #[cfg(test)]
 mod scripts;

@@ -1,6 +1,7 @@
-//! One run of the program, over a reader and a writer that are set to go and to fail in some way.
+//! One run of a script or of the program, over a reader and a writer that are set to go and to fail
+//! in some way.
 use mokabox_interpreter::program::run_program;
-use mokabox_interpreter::script::Status;
+use mokabox_interpreter::script::{Status, run_script};
 use std::alloc::Global;
 use std::io;
 use std::io::{BufReader, Error, ErrorKind, Read, Write};
@@ -48,20 +49,17 @@ pub fn prints_bytes(
     status: Status,
 ) -> Result<(), Fail> {
     for piece in [1, 7, 4096] {
-        check_run(
-            rt,
-            alloc,
-            Way { piece, ..SOUND },
-            &[],
-            script,
-            wanted,
-            status,
-        )?;
+        let way = Way { piece, ..SOUND };
+        let reader = BufReader::new(alloc, source_of(way, script))?;
+        let mut sink = sink_of(way, alloc);
+        let ended = run_script(alloc, reader, &mut sink);
+        has_written(rt, way, script, &sink.taken, wanted)?;
+        assert_eq!(rt; ended, status, "of {script:?} in pieces of {piece}");
     }
     Ok(())
 }
 
-/// Checks what a run writes, and how it ends.
+/// Checks what a run of the program writes, and how it ends.
 pub fn check_run(
     rt: &impl Abort,
     alloc: Global,
@@ -75,25 +73,42 @@ pub fn check_run(
     for argument in arguments {
         words.push(String::from_str(alloc, argument)?)?;
     }
-    let source = Source {
+    let reader = BufReader::new(alloc, source_of(way, script))?;
+    let mut sink = sink_of(way, alloc);
+    let ended = run_program(alloc, &words, reader, &mut sink, &mut Vec::new(alloc));
+    has_written(rt, way, script, &sink.taken, wanted)?;
+    assert_eq!(rt; ended, status, "of {script:?} in pieces of {}", way.piece);
+    Ok(())
+}
+
+// Checks what a run has written.
+fn has_written(
+    rt: &impl Abort,
+    way: Way,
+    script: &[u8],
+    taken: &[u8],
+    wanted: &[u8],
+) -> Result<(), Fail> {
+    assert_eq!(rt; taken, wanted, "of {script:?} in pieces of {}", way.piece);
+    Ok(())
+}
+
+// Returns a reader of a script that behaves in this way.
+fn source_of(way: Way, script: &[u8]) -> Source<'_> {
+    Source {
         rest: script,
         piece: way.piece,
         breaks: way.breaks,
-    };
-    let mut sink = Sink {
+    }
+}
+
+// Returns a writer that behaves in this way.
+fn sink_of(way: Way, alloc: Global) -> Sink {
+    Sink {
         taken: Vec::new(alloc),
         room: way.room,
         flush_fails: way.flush_fails,
-    };
-    let ended = run_program(alloc, &words, BufReader::new(alloc, source)?, &mut sink);
-    assert_eq!(rt;
-        sink.taken.as_slice(),
-        wanted,
-        "of {script:?} in pieces of {}",
-        way.piece
-    );
-    assert_eq!(rt; ended, status, "of {script:?} in pieces of {}", way.piece);
-    Ok(())
+    }
 }
 
 /// A reader that returns its bytes in pieces.

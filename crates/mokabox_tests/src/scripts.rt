@@ -104,7 +104,7 @@ fn a_walk_prints_what_is_live_by_rising_key(rt: HostRuntime) -> Result<(), Fail>
     prints(&rt, rt.alloc(), &WALKS)
 }
 
-const CAPACITIES: [Row; 3] = [
+const CAPACITIES: [Row; 5] = [
     (
         "new capacity=2 policy=lru\ninsert 1 a\ninsert 2 b\ntasks\nget 1\ninsert 3 c\ntasks\n\
          notices\n",
@@ -114,6 +114,18 @@ const CAPACITIES: [Row; 3] = [
     (
         "new policy=lru capacity=0\ninsert 0 x\nhas 0\nget 0\ncount\ntasks\ncount\nnotices\n",
         "ok\nok\nfalse\nnone\n0\nok\n0\nend\n",
+        Status::Done,
+    ),
+    (
+        "new capacity=0 first=18446744073709551615\ninsert 1 a\nweight\nwalk\nbegin with 1\n\
+         notices\n",
+        "ok\nok\n0\nwalk\nrefused 2\nend\n",
+        Status::Done,
+    ),
+    (
+        "new capacity=0\nbegin with 5\nbegin with 5\nfinish with 5 0 value v\n\
+         collect with 5 0\nget 5\nnotices\n",
+        "ok\nrun 0\nwait 0\nentry 5 v fresh\nentry 5 v old\nnone\nend\n",
         Status::Done,
     ),
     (

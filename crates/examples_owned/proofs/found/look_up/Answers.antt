@@ -33,4 +33,4 @@ returns c =
     let room = ap (λ (s : SettingsData _ _ _). s.max_capacity) kept ∙ ap (λ (told : BuilderData _ _ _). told.max_capacity) c.time_to_live.ensures ∙ ap (λ (told : BuilderData _ _ _). told.max_capacity) c.new.ensures in
     by-copy _ c.args.name c.in_ok-get.field-0
     (found-in_time _ _ nat_eq_equiv _ (no_lives c.in_ok-cache.cache.settings.behaviour.expiry) _ live idle (ap stores_nothing room) _ _ c.args.key c.args.key c.args.name c.args.now
-    c.in_ok-get.field-0 c.in_ok-cache.ensures.empty c.in_ok-insert.ensures.stands c.in_ok-get.ensures.ends.reply (nat_eq_equiv.refl c.args.key) _ refl)
+    c.in_ok-get.field-0 c.in_ok-cache.ensures.empty c.in_ok-insert.ensures.ends.stands c.in_ok-get.ensures.ends.reply (nat_eq_equiv.refl c.args.key) _ refl)

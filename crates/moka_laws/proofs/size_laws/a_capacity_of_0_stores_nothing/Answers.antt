@@ -16,4 +16,4 @@ pub returns-clause-removals : goal.returns-clause-removals
 returns-clause-removals g c settings steps none legal = removals-empty g.K.PartialEq.eq settings none steps legal
 
 pub returns-clause-drawn : goal.returns-clause-drawn
-returns-clause-drawn g c settings k v at h none = drawn-empty g.K.PartialEq.eq settings none k v at h
+returns-clause-drawn g c settings h k v at none = drawn-empty g.K.PartialEq.eq settings none k v at h

@@ -38,9 +38,12 @@ hide_where-requires-clause-supported g c =
     let there : slice_get c.args.self.now.segments index ≡ Some c.index_mut.result.now = sym (was.progress.rest index (omega arith)) ∙ here in
     rw there at (c.requires.supported index)
 
-pub returns : goal.returns
-returns g c =
+pub returns-clause-stands : goal.returns-clause-stands
+returns-clause-stands g c =
     let was = c.loop-index.invariant in
     let count : length c.self.inside.segments.items ≡ length c.args.self.now.segments = ap (λ (d : SegmentedData _ _ _ _ _ _ _). length d.segments) c.self.view_is in
     let all : c.loop-index.index ≡ length c.args.self.now.segments = omega (arith, c.loop-index-test.false, c.loop-index.auto.index-end, c.len-index-end.ensures, count) in
     broadcast-follows g.row.C-Error.Denot g.K.PartialEq.eq (behaviour_by (hash_by g.C.Hasher.BuildHasher.build_hasher g.C.Hasher.Hasher.Hasher.write g.C.Hasher.Hasher.Hasher.finish g.K.Hash.hash_input) g.C.CacheTypes.weight g.C.CacheTypes.lifetimes) (estimates g.C.Frequency.FrequencySource.noted g.C.Frequency.FrequencySource.count) g.C.Frequency.FrequencySource.opened (InvalidateIf (g.C.CacheTypes.test c.args.predicate.now)) c.args.self.now c.loop-index.self-inside.bits (data_of c.loop-index.self-inside.settings) c.loop-index.self-inside.segments.items c.loop-index.index was.bits was.settings all was.progress (λ given calls. refl)
+
+pub returns-clause-settings : goal.returns-clause-settings
+returns-clause-settings g c = c.loop-index.invariant.settings

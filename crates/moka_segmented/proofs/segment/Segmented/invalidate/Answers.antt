@@ -8,8 +8,8 @@ use Rattle.moka_segmented.proofs.Hashing.{hash-at, all-hash-set}
 use Rattle.moka_segmented.proofs.Routed.{Routing, routed-follows}
 use Rattle.moka_segmented.proofs.segment.Segmented.invalidate.Goals as goal
 
-pub returns : goal.returns
-returns g c =
+pub returns-clause-stands : goal.returns-clause-stands
+returns-clause-stands g c =
     let behaviour = behaviour_by (hash_by g.C.Hasher.BuildHasher.build_hasher g.C.Hasher.Hasher.Hasher.write g.C.Hasher.Hasher.Hasher.finish g.K.Hash.hash_input) g.C.CacheTypes.weight g.C.CacheTypes.lifetimes in
     let frequency = estimates g.C.Frequency.FrequencySource.noted g.C.Frequency.FrequencySource.count in
     let it = c.self.inside in

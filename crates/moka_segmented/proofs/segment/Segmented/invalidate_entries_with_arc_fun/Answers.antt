@@ -14,4 +14,7 @@ returns-clause-accepted g c given calls stand =
     (λ ok. (supported-by g.row.C-Error.Denot g.K.PartialEq.eq (behaviour_by (hash_by g.C.Hasher.BuildHasher.build_hasher g.C.Hasher.Hasher.Hasher.write g.C.Hasher.Hasher.Hasher.finish g.K.Hash.hash_input) g.C.CacheTypes.weight g.C.CacheTypes.lifetimes) (estimates g.C.Frequency.FrequencySource.noted g.C.Frequency.FrequencySource.count) g.C.Frequency.FrequencySource.opened c.args.self.now given calls stand).0 (c.in_ok-check_closures_enabled.ensures.accepted.0 refl), λ supports. refl)
 
 pub returns-clause-stands : goal.returns-clause-stands
-returns-clause-stands g c = rw (c.in_ok-check_closures_enabled.ensures.same, c.deref.ensures) at c.hide_in_all.ensures
+returns-clause-stands g c = rw (c.in_ok-check_closures_enabled.ensures.same, c.deref.ensures) at c.hide_in_all.ensures.stands
+
+pub returns-clause-settings : goal.returns-clause-settings
+returns-clause-settings g c = rw c.in_ok-check_closures_enabled.ensures.same at c.hide_in_all.ensures.settings

@@ -19,6 +19,7 @@ invariant-loop-step g l =
     let view = segmented_view_by (behaviour_by (hash_by g.C.Hasher.BuildHasher.build_hasher g.C.Hasher.Hasher.Hasher.write g.C.Hasher.Hasher.Hasher.finish g.K.Hash.hash_input) g.C.CacheTypes.weight g.C.CacheTypes.lifetimes) (estimates g.C.Frequency.FrequencySource.noted g.C.Frequency.FrequencySource.count) g.C.Frequency.FrequencySource.opened in
     record {
       kept : AllByRecursion (StepKeeps g.C.CacheTypes.keeps g.C.Predicate.Predicate.tests g.C.CacheTypes.test) l.left.items;
+      settings : l.self.settings ≡ l.fn.self.settings;
       room : vec_len l.replies + deque_len l.left ≤ vec_capacity l.replies;
       so_far : (given : SegmentedSettings _ _) (before : List (Call _ _ _)) → AllStandFor g.K.PartialEq.eq g.V.Clone.is_clone given (view l.fn.self) before
           → (done : List (Step _ _ _ _ _ _ _ _ _ _ _ _)) × (l.fn.steps.items ≡ done ++ l.left.items) × IsRunIn g.C.CacheTypes.test g.K.PartialEq.eq g.V.Clone.is_clone g.V.Clone.is_infallible given before done l.replies.items × AllStandFor g.K.PartialEq.eq g.V.Clone.is_clone given (view l.self) (after_all_in g.C.CacheTypes.test done l.replies.items before);

@@ -1,11 +1,12 @@
 use Rattle.std.proofs.Common.{◌≡◌, ◌<◌, length, ap, refl, arith, Some}
 use Rattle.std.specs.List.{slice_get}
 use Rattle.std.proofs.lemmas.Option.{slice_get_read}
-use Rattle.moka_expiration.specs.Behaviour.{hash_by, behaviour_by}
+use Rattle.moka_expiration.specs.Behaviour.{hash_by, behaviour_by, weight_by}
 use Rattle.moka_expiration.specs.StateData.{estimates, view_by}
 use Rattle.moka_model.specs.Calls.{RunPendingTasks}
 use Rattle.moka_segmented.specs.SegmentedData.{SegmentedData, data_of}
 use Rattle.moka_segmented.proofs.Hashing.{all-hash-by}
+use Rattle.moka_segmented.proofs.Maintained.{live-in, weigh-within, count-within}
 use Rattle.moka_segmented.proofs.Broadcast.{progress-none, progress-more, broadcast-follows}
 use Rattle.moka_segmented.proofs.segment.Segmented.run_pending_tasks.Goals as goal
 
@@ -27,9 +28,27 @@ loop-index-preserved g c =
       progress = progress-more g.K.PartialEq.eq g.V.Clone.is_clone (view_by (behaviour_by (hash_by g.C.Hasher.BuildHasher.build_hasher g.C.Hasher.Hasher.Hasher.write g.C.Hasher.Hasher.Hasher.finish g.K.Hash.hash_input) g.C.CacheTypes.weight g.C.CacheTypes.lifetimes) (estimates g.C.Frequency.FrequencySource.noted g.C.Frequency.FrequencySource.count) g.C.Frequency.FrequencySource.opened) (RunPendingTasks c.args.now) c.args.self.now.segments now index c.index_mut.result.now c.run_pending_tasks.new.self here c.run_pending_tasks.ensures.stands c.loop-index.invariant.progress;
     }
 
-pub returns : goal.returns
-returns g c =
+pub returns-clause-stands : goal.returns-clause-stands
+returns-clause-stands g c =
     let was = c.loop-index.invariant in
     let count : length c.self.inside.segments.items ≡ length c.args.self.now.segments = ap (λ (d : SegmentedData _ _ _ _ _ _ _). length d.segments) c.self.view_is in
     let all : c.loop-index.index ≡ length c.args.self.now.segments = omega (arith, c.loop-index-test.false, c.loop-index.auto.index-end, c.len-index-end.ensures, count) in
     broadcast-follows g.row.C-Error.Denot g.K.PartialEq.eq (behaviour_by (hash_by g.C.Hasher.BuildHasher.build_hasher g.C.Hasher.Hasher.Hasher.write g.C.Hasher.Hasher.Hasher.finish g.K.Hash.hash_input) g.C.CacheTypes.weight g.C.CacheTypes.lifetimes) (estimates g.C.Frequency.FrequencySource.noted g.C.Frequency.FrequencySource.count) g.C.Frequency.FrequencySource.opened (RunPendingTasks c.args.now) c.args.self.now c.loop-index.self-inside.bits (data_of c.loop-index.self-inside.settings) c.loop-index.self-inside.segments.items c.loop-index.index was.bits was.settings all was.progress (λ given calls. refl)
+
+pub returns-clause-settings : goal.returns-clause-settings
+returns-clause-settings g c = c.loop-index.invariant.settings
+
+pub returns-clause-all_live : goal.returns-clause-all_live
+returns-clause-all_live g c given calls stand =
+    let cache : SegmentedData _ _ _ _ _ _ _ = record { bits = c.loop-index.self-inside.bits; settings = data_of c.loop-index.self-inside.settings; segments = c.loop-index.self-inside.segments.items } in
+    live-in g.row.C-Error.Denot g.K.PartialEq.eq (behaviour_by (hash_by g.C.Hasher.BuildHasher.build_hasher g.C.Hasher.Hasher.Hasher.write g.C.Hasher.Hasher.Hasher.finish g.K.Hash.hash_input) g.C.CacheTypes.weight g.C.CacheTypes.lifetimes) (estimates g.C.Frequency.FrequencySource.noted g.C.Frequency.FrequencySource.count) g.C.Frequency.FrequencySource.opened cache given calls c.args.now (returns-clause-stands g c given calls stand)
+
+pub returns-clause-within : goal.returns-clause-within
+returns-clause-within g c given calls stand =
+    let cache : SegmentedData _ _ _ _ _ _ _ = record { bits = c.loop-index.self-inside.bits; settings = data_of c.loop-index.self-inside.settings; segments = c.loop-index.self-inside.segments.items } in
+    weigh-within g.row.C-Error.Denot g.K.PartialEq.eq (behaviour_by (hash_by g.C.Hasher.BuildHasher.build_hasher g.C.Hasher.Hasher.Hasher.write g.C.Hasher.Hasher.Hasher.finish g.K.Hash.hash_input) g.C.CacheTypes.weight g.C.CacheTypes.lifetimes) (estimates g.C.Frequency.FrequencySource.noted g.C.Frequency.FrequencySource.count) g.C.Frequency.FrequencySource.opened cache given calls c.args.now (returns-clause-stands g c given calls stand)
+
+pub returns-clause-count : goal.returns-clause-count
+returns-clause-count g c given calls stand without =
+    let cache : SegmentedData _ _ _ _ _ _ _ = record { bits = c.loop-index.self-inside.bits; settings = data_of c.loop-index.self-inside.settings; segments = c.loop-index.self-inside.segments.items } in
+    count-within g.row.C-Error.Denot g.K.PartialEq.eq (behaviour_by (hash_by g.C.Hasher.BuildHasher.build_hasher g.C.Hasher.Hasher.Hasher.write g.C.Hasher.Hasher.Hasher.finish g.K.Hash.hash_input) g.C.CacheTypes.weight g.C.CacheTypes.lifetimes) (estimates g.C.Frequency.FrequencySource.noted g.C.Frequency.FrequencySource.count) g.C.Frequency.FrequencySource.opened cache given calls c.args.now (returns-clause-stands g c given calls stand) (λ k v. ap (λ it. weight_by g.C.CacheTypes.weight it k v) without)

@@ -3,7 +3,7 @@ use Rattle.moka_segmented.proofs.segment.Segmented.step_of_all.Goals as goal
 use Rattle.std.proofs.Common.{refl}
 
 pub returns-in-InvalidateAll-clause-stands : goal.returns-in-InvalidateAll-clause-stands
-returns-in-InvalidateAll-clause-stands g c given calls stand = rw c.in-InvalidateAll.is (c.invalidate_all.ensures given calls stand)
+returns-in-InvalidateAll-clause-stands g c given calls stand = rw c.in-InvalidateAll.is (c.invalidate_all.ensures.stands given calls stand)
 
 pub returns-in-Ok-clause-reply : goal.returns-in-Ok-clause-reply
 returns-in-Ok-clause-reply g c given calls stand =
@@ -18,7 +18,7 @@ returns-in-Err-clause-reply g c given calls stand =
     (λ supports. let ok = (c.in-Err.ensures.accepted given calls stand).1 supports in cc)
 
 pub returns-in-RunPendingTasks-clause-stands : goal.returns-in-RunPendingTasks-clause-stands
-returns-in-RunPendingTasks-clause-stands g c given calls stand = rw c.in-RunPendingTasks.is (c.run_pending_tasks.ensures given calls stand)
+returns-in-RunPendingTasks-clause-stands g c given calls stand = rw c.in-RunPendingTasks.is (c.run_pending_tasks.ensures.stands given calls stand)
 
 pub returns-in-RunPendingTasksUpTo-clause-stands : goal.returns-in-RunPendingTasksUpTo-clause-stands
 returns-in-RunPendingTasksUpTo-clause-stands g c given calls stand = rw c.in-RunPendingTasksUpTo.is (c.run_pending_tasks_up_to.ensures.stands given calls stand)

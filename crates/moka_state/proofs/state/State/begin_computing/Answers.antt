@@ -1,8 +1,8 @@
-use Rattle.std.proofs.Common.{◌≡◌, ℕ, Option, Some, None, cond, option_map, List, [], ◌∷◌, ◌++◌, refl, sym, ap, ◌∙◌, subst, arith, max, rules}
+use Rattle.std.proofs.Common.{Option, Some, None, cond, [], ◌∷◌, refl, sym, ap, ◌∙◌, subst, arith, max, rules}
 use Rattle.std.specs.Arc.{arc_value}
 use Rattle.moka_model.specs.declared.turns.Kind.TheVariants.{Compute}
 use Rattle.moka_model.specs.Events.{Looked, Passed, Drawn}
-use Rattle.moka_model.specs.Turns.{Name, Opened, Waited}
+use Rattle.moka_model.specs.Turns.{Waited}
 use Rattle.moka_model.specs.Steps.{events_in, turns}
 use Rattle.moka_model.specs.Calls.{BeginCompute}
 use Rattle.moka_model.specs.Entries.{entry_of}
@@ -13,13 +13,13 @@ use Rattle.moka_table.specs.Table.{stored_write}
 use Rattle.moka_table.proofs.Callers.{of-row}
 use Rattle.moka_turns.specs.declared.turn_key.TurnKey.{TurnKey}
 use Rattle.moka_turns.specs.Handles.{turn_name, ticket_name}
-use Rattle.moka_turns.specs.Represents.{name_of}
 use Rattle.moka_turns.proofs.Views.{table-keeps, table-holds}
 use Rattle.moka_state.proofs.Alike.{hash-alike}
 use Rattle.moka_state.proofs.Becoming.{becomes-passed, estimates-noted}
 use Rattle.moka_state.proofs.Begins.{becomes-drawn, looks-in-vain, move-stands, waits-told}
 use Rattle.moka_state.proofs.ComputeForms.{at-once-refused, err-is, open-waits}
-use Rattle.moka_state.proofs.Computes.{none-open, nothing-saved, compute-refused, compute-waits, after-compute-waits, compute-used-up, compute-runs, after-compute-runs, shows-none, shows-live, shows-hit}
+use Rattle.moka_state.proofs.Computes.{none-open, nothing-saved, compute-refused, compute-waits, after-compute-waits, compute-used-up, compute-runs, after-compute-runs}
+use Rattle.moka_state.proofs.Finds.{found-live, found-hit, found-none}
 use Rattle.moka_state.proofs.Held.{same-key}
 use Rattle.moka_state.proofs.Sound.{IsSound-touched}
 use Rattle.moka_state.proofs.Turns.{sound-turns, same-turns, with-turns}
@@ -146,7 +146,7 @@ returns-in_default-found-clause-begins g c = record {
       let counted = ap (λ (b : Books _ _). b.next_number) there.books in
       let opened = none-open eq g.V.Clone.is_clone hash_of (turns steps) _ _ keeps q hash c.is_awaitable.result c.is_awaitable.ensures c.if-is_awaitable.false in
       let shown = rw (c.deref.ensures, c.max-now.ensures, c.in_default-found.is) at c.in-Ok.ensures in
-      let live = shows-none eq g.V.Clone.is_clone laws _ s.table _ s.latest s.next_number given steps there s.housekeeper.lives refl c.self.invariant.0.dated hash_of alike c.self.invariant.0.hashed key c.args.keep c.args.now c.args.hash hash (omega (arith, c.max-now.ensures)) shown in
+      let live = found-none eq laws _ s.table _ s.latest s.next_number given steps there s.housekeeper.lives refl c.self.invariant.0.dated hash_of alike c.self.invariant.0.hashed key c.args.now c.args.hash hash (omega (arith, c.max-now.ensures)) shown in
       compute-runs eq g.V.Clone.is_clone g.V.Clone.is_infallible given steps key c.args.keep c.args.now opened s.next_number counted c.if-next.false (turn_name c.in_ok-turn.turn) c.in_ok-turn.ensures.name None live None tt;
   stands = λ given steps stands.
       let s = c.self.inside in
@@ -163,7 +163,7 @@ returns-in_default-found-clause-begins g c = record {
       let counted = ap (λ (b : Books _ _). b.next_number) there.books in
       let opened = none-open eq g.V.Clone.is_clone hash_of (turns steps) _ _ keeps q hash c.is_awaitable.result c.is_awaitable.ensures c.if-is_awaitable.false in
       let shown = rw (c.deref.ensures, c.max-now.ensures, c.in_default-found.is) at c.in-Ok.ensures in
-      let live = shows-none eq g.V.Clone.is_clone laws _ s.table _ s.latest s.next_number given steps there s.housekeeper.lives refl c.self.invariant.0.dated hash_of alike c.self.invariant.0.hashed key c.args.keep c.args.now c.args.hash hash (omega (arith, c.max-now.ensures)) shown in
+      let live = found-none eq laws _ s.table _ s.latest s.next_number given steps there s.housekeeper.lives refl c.self.invariant.0.dated hash_of alike c.self.invariant.0.hashed key c.args.now c.args.hash hash (omega (arith, c.max-now.ensures)) shown in
       let becomes = looks-in-vain eq laws _ s.table _ s.latest s.next_number given steps there None key c.args.now live _ (estimates-noted g.C.Frequency.FrequencySource.noted g.C.Frequency.FrequencySource.count s.housekeeper.source c.note.new.self c.args.hash _ c.note.ensures hash) in
       let value : Option g.row.V.Denot = cond c.args.keep None None in
       let left = c.in_ok-turn.ensures.opens hash_of (turns steps) value alike hash (nothing-saved g.V.Clone.is_clone c.args.keep) keeps in
@@ -200,8 +200,8 @@ returns-clause-begins g c = record {
       let counted = ap (λ (b : Books _ _). b.next_number) there.books in
       let opened = none-open eq g.V.Clone.is_clone hash_of (turns steps) _ _ keeps q hash c.is_awaitable.result c.is_awaitable.ensures c.if-is_awaitable.false in
       let shown = rw (c.deref.ensures, c.max-now.ensures, c.in-Some.is) at c.in-Ok.ensures in
-      let it = shows-live eq g.V.Clone.is_clone laws _ s.table _ s.latest s.next_number given steps there s.housekeeper.lives refl c.self.invariant.0.dated hash_of alike c.self.invariant.0.hashed key c.args.keep c.args.now c.args.hash hash (omega (arith, c.max-now.ensures)) c.in-Some.shown shown in
-      compute-runs eq g.V.Clone.is_clone g.V.Clone.is_infallible given steps key c.args.keep c.args.now opened s.next_number counted c.if-next.false (turn_name c.in-Ok-open_shown.turn) c.in-Ok-open_shown.ensures.name (Some (stored_write it.0)) it.1 (Some (entry_of c.in-Some.shown.entry)) it.2;
+      let live = found-live eq laws _ s.table _ s.latest s.next_number given steps there s.housekeeper.lives refl c.self.invariant.0.dated hash_of alike c.self.invariant.0.hashed key c.args.now c.args.hash hash (omega (arith, c.max-now.ensures)) c.in-Some.shown.number (shown.0, shown.1, shown.2, shown.3) in
+      compute-runs eq g.V.Clone.is_clone g.V.Clone.is_infallible given steps key c.args.keep c.args.now opened s.next_number counted c.if-next.false (turn_name c.in-Ok-open_shown.turn) c.in-Ok-open_shown.ensures.name (Some (stored_write shown.0)) live (Some (entry_of c.in-Some.shown.entry)) shown.4;
   stands = λ given steps stands.
       let s = c.self.inside in
       let eq = g.K.PartialEq.eq in
@@ -217,12 +217,12 @@ returns-clause-begins g c = record {
       let counted = ap (λ (b : Books _ _). b.next_number) there.books in
       let opened = none-open eq g.V.Clone.is_clone hash_of (turns steps) _ _ keeps q hash c.is_awaitable.result c.is_awaitable.ensures c.if-is_awaitable.false in
       let shown = rw (c.deref.ensures, c.max-now.ensures, c.in-Some.is) at c.in-Ok.ensures in
-      let it = shows-live eq g.V.Clone.is_clone laws _ s.table _ s.latest s.next_number given steps there s.housekeeper.lives refl c.self.invariant.0.dated hash_of alike c.self.invariant.0.hashed key c.args.keep c.args.now c.args.hash hash (omega (arith, c.max-now.ensures)) c.in-Some.shown shown in
-      let becomes = shows-hit eq g.V.Clone.is_clone laws _ s.table _ s.latest s.next_number given steps there s.housekeeper.lives refl c.self.invariant.0.dated hash_of alike c.self.invariant.0.hashed key c.args.keep c.args.now c.args.hash hash (omega (arith, c.max-now.ensures)) c.in-Some.shown c.hit.new.table shown (rw c.max-now.ensures at c.hit.ensures.used) c.hit.ensures.notices _ (estimates-noted g.C.Frequency.FrequencySource.noted g.C.Frequency.FrequencySource.count s.housekeeper.source c.hit.new.self.source c.args.hash _ c.hit.ensures.noted hash) in
-      let value : Option g.row.V.Denot = cond c.args.keep (Some it.0.value) None in
-      let left = c.in-Ok-open_shown.ensures.opens hash_of (turns steps) value alike hash it.3 keeps in
+      let live = found-live eq laws _ s.table _ s.latest s.next_number given steps there s.housekeeper.lives refl c.self.invariant.0.dated hash_of alike c.self.invariant.0.hashed key c.args.now c.args.hash hash (omega (arith, c.max-now.ensures)) c.in-Some.shown.number (shown.0, shown.1, shown.2, shown.3) in
+      let becomes = found-hit eq laws _ s.table _ s.latest s.next_number given steps there s.housekeeper.lives refl c.self.invariant.0.dated hash_of alike c.self.invariant.0.hashed key c.args.now c.args.hash hash (omega (arith, c.max-now.ensures)) c.in-Some.shown.number c.hit.new.table (shown.0, shown.1, shown.2, shown.3) (rw c.max-now.ensures at c.hit.ensures.used) c.hit.ensures.notices _ (estimates-noted g.C.Frequency.FrequencySource.noted g.C.Frequency.FrequencySource.count s.housekeeper.source c.hit.new.self.source c.args.hash _ c.hit.ensures.noted hash) in
+      let value : Option g.row.V.Denot = cond c.args.keep (Some shown.0.value) None in
+      let left = c.in-Ok-open_shown.ensures.opens hash_of (turns steps) value alike hash shown.5 keeps in
       rw (c.hit.ensures.lives, c.hit.ensures.max_capacity, c.max-now.ensures) (move-stands eq given _ _ _ steps there (BeginCompute key c.args.keep c.args.now) (Drawn ∷ Looked key c.args.now ∷ []) _
-      (after-compute-runs eq g.V.Clone.is_clone g.V.Clone.is_infallible given steps key c.args.keep c.args.now opened s.next_number counted (Some (stored_write it.0)) it.1) _
+      (after-compute-runs eq g.V.Clone.is_clone g.V.Clone.is_infallible given steps key c.args.keep c.args.now opened s.next_number counted (Some (stored_write shown.0)) live) _
       (view-becomes eq laws given _ _ _ Drawn
       (view-becomes eq laws given _ _ (events_in steps) (Looked key c.args.now) (view-of eq given _ steps there) becomes)
       (becomes-drawn eq _ c.hit.new.table _ (max s.latest c.args.now) s.next_number))

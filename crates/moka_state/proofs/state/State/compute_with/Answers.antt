@@ -6,7 +6,7 @@ use Rattle.moka_state.proofs.state.State.compute_with.Goals as goal
 
 pub returns-in-Err-clause-form : goal.returns-in-Err-clause-form
 returns-in-Err-clause-form g c =
-    let begins = rw c.in-Err.is at c.open_at_once.ensures.begins in (
+    let begins = rw c.in-Err.is at c.begin_compute_now.ensures.begins in (
       None,
       None,
       λ settings steps stands. compute-form-refused g.K.PartialEq.eq g.V.Clone.is_clone g.V.Clone.is_infallible settings steps (BeginCompute c.args.key true c.args.now) _ c.args.now None c.in-Err.cause (begins.reply settings steps stands),
@@ -16,11 +16,11 @@ returns-in-Err-clause-form g c =
 
 pub returns-clause-form : goal.returns-clause-form
 returns-clause-form g c =
-    let begins = rw (c.in-Ok.is, c.in-Run.is) at c.open_at_once.ensures.begins in
+    let begins = rw c.in-Ok.is at c.begin_compute_now.ensures.begins in
     let ends = c.end_compute.ensures.ends in (
-      c.in-Run.shown,
+      c.in-Ok.begun.shown,
       Some c.f.result,
-      λ settings steps stands. (turn_name c.in-Run.turn, begins.reply settings steps stands, ends settings _ (begins.stands settings steps stands)),
+      λ settings steps stands. (turn_name c.in-Ok.begun.turn, begins.reply settings steps stands, ends settings _ (begins.stands settings steps stands)),
       c.f.ensures,
       tt,
     )

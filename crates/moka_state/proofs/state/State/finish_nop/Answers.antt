@@ -1,44 +1,31 @@
-use Rattle.std.proofs.Common.{◌≡◌, ◌<◌, None, Some, max, true, false, not, ◌||◌, option_map, refl, sym, ap, ◌∙◌, subst, arith}
+use Rattle.std.proofs.Common.{refl, ap}
 use Rattle.std.specs.Arc.{arc_value}
 use Rattle.moka_model.specs.declared.turns.Outcome.TheVariants.{Op}
-use Rattle.moka_model.specs.declared.turns.Op.TheVariants.{Put, Remove, Nop}
-use Rattle.moka_model.specs.Turns.{Name}
+use Rattle.moka_model.specs.declared.turns.Op.TheVariants.{Nop}
 use Rattle.moka_model.specs.Steps.{events_in, turns}
-use Rattle.moka_model.specs.Events.{Passed, Invalidated}
+use Rattle.moka_model.specs.Events.{Passed}
 use Rattle.moka_model.proofs.Callers.{view-of}
 use Rattle.moka_expiration.specs.Behaviour.{hash_by}
 use Rattle.moka_turns.specs.Handles.{turn_name}
 use Rattle.moka_turns.proofs.Changes.{given-there}
 use Rattle.moka_turns.proofs.Views.{table-keeps, table-holds}
+use Rattle.moka_state.proofs.Alike.{hash-alike}
 use Rattle.moka_state.proofs.Becoming.{becomes-passed}
 use Rattle.moka_state.proofs.Computes.{left-answer, left-given}
-use Rattle.moka_state.proofs.Finishes.{open-told, closed-told, finish-unknown, finish-given, finish-stands}
+use Rattle.moka_state.proofs.Finishes.{taken, stored-entry, finish-given, finish-stands}
 use Rattle.moka_state.proofs.Turns.{sound-turns, no-less}
 use Rattle.moka_state.proofs.Views.{view-becomes}
 use Rattle.moka_state.proofs.state.State.finish_nop.Goals as goal
 
-pub returns-in_default : goal.returns-in_default
-returns-in_default g c = rw c.refusal.ensures (record {
-  reply = λ given steps stands.
-      let s = c.self.inside in
-      let eq = g.K.PartialEq.eq in
-      let laws = g.met.K.Eq.laws in
-      let name = c.with_hash-turn.ensures.name in
-      let hash_of = hash_by g.C.Hasher.BuildHasher.build_hasher g.C.Hasher.Hasher.Hasher.write g.C.Hasher.Hasher.Hasher.finish g.K.Hash.hash_input s.behaviour.hasher in
-      let hashed = c.with_hash-turn.ensures.hash ∙ c.hash-hash.ensures.hash ∙ ap hash_of (c.key.ensures ∙ sym (ap (λ (n : Name g.row.K.Denot). n.key) name)) in
-      let there = rw (← c.self.view_is) at stands in
-      let keeps = table-keeps eq laws g.V.Clone.is_clone hash_of c.hash-hash.ensures.alike s.turns.opened.entries s.turns.ended.entries (turns steps) there.turns in
-      let sound = sound-turns eq laws given steps stands.legal in
-      let told = c.waiting_for.ensures.tells hash_of (turns steps) c.hash-hash.ensures.alike hashed sound keeps in
-      let none = rw name at (closed-told _ _ c.waiting_for.result told c.in_default.is) in
-      finish-unknown eq given steps (turn_name c.args.turn) (Op Nop) c.args.now c.requires g.V.Clone.is_clone g.V.Clone.is_infallible none;
-  stands = tt;
-  given = tt;
-  refused = refl;
-  turn_back = c.with_hash-turn.ensures.name;
-  outcome_back = refl;
-  settings = refl;
-})
+pub finish_computed-key-requires : goal.finish_computed-key-requires
+finish_computed-key-requires g c =
+    let s = c.self.inside in
+    let eq = g.K.PartialEq.eq in
+    let laws = g.met.K.Eq.laws in
+    let hash_of = hash_by g.C.Hasher.BuildHasher.build_hasher g.C.Hasher.Hasher.Hasher.write g.C.Hasher.Hasher.Hasher.finish g.K.Hash.hash_input s.behaviour.hasher in
+    let alike = hash-alike g.C.Hasher.BuildHasher.build_hasher g.C.Hasher.Hasher.Hasher.write g.C.Hasher.Hasher.Hasher.finish s.behaviour.hasher g.met.K.Hash.respects_eq in
+    let hashed = rw (← c.self.view_is) at c.requires.hash in
+    stored-entry eq laws g.V.Clone.is_clone hash_of alike s.turns.opened.entries s.turns.ended.entries c.args.turn hashed (rw (← c.self.view_is) at c.requires.is_open.stored)
 
 pub returns : goal.returns
 returns g c = record {
@@ -46,37 +33,32 @@ returns g c = record {
       let s = c.self.inside in
       let eq = g.K.PartialEq.eq in
       let laws = g.met.K.Eq.laws in
-      let name = c.with_hash-turn.ensures.name in
       let hash_of = hash_by g.C.Hasher.BuildHasher.build_hasher g.C.Hasher.Hasher.Hasher.write g.C.Hasher.Hasher.Hasher.finish g.K.Hash.hash_input s.behaviour.hasher in
-      let hashed = c.with_hash-turn.ensures.hash ∙ c.hash-hash.ensures.hash ∙ ap hash_of (c.key.ensures ∙ sym (ap (λ (n : Name g.row.K.Denot). n.key) name)) in
+      let alike = hash-alike g.C.Hasher.BuildHasher.build_hasher g.C.Hasher.Hasher.Hasher.write g.C.Hasher.Hasher.Hasher.finish s.behaviour.hasher g.met.K.Hash.respects_eq in
+      let hashed = rw (← c.self.view_is) at c.requires.hash in
       let there = rw (← c.self.view_is) at stands in
-      let keeps = table-keeps eq laws g.V.Clone.is_clone hash_of c.hash-hash.ensures.alike s.turns.opened.entries s.turns.ended.entries (turns steps) there.turns in
-      let sound = sound-turns eq laws given steps stands.legal in
-      let told = c.waiting_for.ensures.tells hash_of (turns steps) c.hash-hash.ensures.alike hashed sound keeps in
-      let t = rw name at (open-told _ _ c.waiting_for.result told (rw c.in-Some.is refl)) in
-      let ends = given-there _ _ t.0 t.1 (rw name at (c.finish_computed-key.ensures.finishes hash_of (turns steps) c.hash-hash.ensures.alike hashed sound keeps)) in
-      let keyed = ap arc_value c.finish_computed-key.ensures.key ∙ ap (λ (n : Name g.row.K.Denot). n.key) name in
-      finish-given eq given steps (turn_name c.args.turn) (Op Nop) c.args.now c.requires g.V.Clone.is_clone g.V.Clone.is_infallible t.0 t.1 _
-      (left-answer g.V.Clone.is_clone _ _ (turn_name c.args.turn) keyed t.0.kept c.finish_computed-key.result.1.saved ends.1 c.unchanged_result.result c.unchanged_result.ensures) (λ out. no-less out.0);
+      let keeps = table-keeps eq laws g.V.Clone.is_clone hash_of alike s.turns.opened.entries s.turns.ended.entries (turns steps) there.turns in
+      let sound = sound-turns eq laws given steps there.legal in
+      let t = taken _ _ (c.requires.is_open.in_history given steps stands) in
+      let ends = given-there _ _ t.0 t.1 (c.finish_computed-key.ensures.finishes hash_of (turns steps) alike hashed sound keeps) in
+      finish-given eq given steps (turn_name c.args.turn) (Op Nop) c.args.now c.requires.fits g.V.Clone.is_clone g.V.Clone.is_infallible t.0 t.1 _
+      (left-answer g.V.Clone.is_clone _ _ (turn_name c.args.turn) (ap arc_value c.finish_computed-key.ensures.key) t.0.kept c.finish_computed-key.result.1.saved ends.1 c.unchanged_result.result c.unchanged_result.ensures) (λ out. no-less out.0);
   stands = λ given steps stands.
       let s = c.self.inside in
       let eq = g.K.PartialEq.eq in
       let laws = g.met.K.Eq.laws in
-      let name = c.with_hash-turn.ensures.name in
       let hash_of = hash_by g.C.Hasher.BuildHasher.build_hasher g.C.Hasher.Hasher.Hasher.write g.C.Hasher.Hasher.Hasher.finish g.K.Hash.hash_input s.behaviour.hasher in
-      let hashed = c.with_hash-turn.ensures.hash ∙ c.hash-hash.ensures.hash ∙ ap hash_of (c.key.ensures ∙ sym (ap (λ (n : Name g.row.K.Denot). n.key) name)) in
+      let alike = hash-alike g.C.Hasher.BuildHasher.build_hasher g.C.Hasher.Hasher.Hasher.write g.C.Hasher.Hasher.Hasher.finish s.behaviour.hasher g.met.K.Hash.respects_eq in
+      let hashed = rw (← c.self.view_is) at c.requires.hash in
       let there = rw (← c.self.view_is) at stands in
-      let keeps = table-keeps eq laws g.V.Clone.is_clone hash_of c.hash-hash.ensures.alike s.turns.opened.entries s.turns.ended.entries (turns steps) there.turns in
-      let sound = sound-turns eq laws given steps stands.legal in
-      let told = c.waiting_for.ensures.tells hash_of (turns steps) c.hash-hash.ensures.alike hashed sound keeps in
-      let t = rw name at (open-told _ _ c.waiting_for.result told (rw c.in-Some.is refl)) in
-      let ends = given-there _ _ t.0 t.1 (rw name at (c.finish_computed-key.ensures.finishes hash_of (turns steps) c.hash-hash.ensures.alike hashed sound keeps)) in
-      rw c.max-self-inside.ensures (finish-stands eq given steps (turn_name c.args.turn) (Op Nop) c.args.now c.requires _ _ _ there t.0 t.1 _
+      let keeps = table-keeps eq laws g.V.Clone.is_clone hash_of alike s.turns.opened.entries s.turns.ended.entries (turns steps) there.turns in
+      let sound = sound-turns eq laws given steps there.legal in
+      let t = taken _ _ (c.requires.is_open.in_history given steps stands) in
+      let ends = given-there _ _ t.0 t.1 (c.finish_computed-key.ensures.finishes hash_of (turns steps) alike hashed sound keeps) in
+      rw c.max-self-inside.ensures (finish-stands eq given steps (turn_name c.args.turn) (Op Nop) c.args.now c.requires.fits _ _ _ there t.0 t.1 _
       (view-becomes eq laws given _ _ (events_in steps) (Passed c.args.now) (view-of eq given _ steps there) (becomes-passed eq _ s.table _ s.latest s.next_number c.args.now))
-      (table-holds eq laws g.V.Clone.is_clone hash_of c.hash-hash.ensures.alike _ _ _ ends.2));
-  given =
-      let keyed = ap arc_value c.finish_computed-key.ensures.key ∙ ap (λ (n : Name g.row.K.Denot). n.key) c.with_hash-turn.ensures.name in
-      left-given g.V.Clone.is_clone _ (turn_name c.args.turn).key keyed c.finish_computed-key.result.1.saved c.unchanged_result.result c.unchanged_result.ensures;
+      (table-holds eq laws g.V.Clone.is_clone hash_of alike _ _ _ ends.2));
+  given = left-given g.V.Clone.is_clone _ (turn_name c.args.turn).key (ap arc_value c.finish_computed-key.ensures.key) c.finish_computed-key.result.1.saved c.unchanged_result.result c.unchanged_result.ensures;
   refused = tt;
   turn_back = tt;
   outcome_back = tt;

@@ -1,41 +1,19 @@
-use Rattle.std.proofs.Common.{Some, None, Ok, Err, refl}
-use Rattle.moka_model.specs.declared.turns.Kind.TheVariants.{Optionally}
-use Rattle.moka_model.specs.Calls.{Entered}
+use Rattle.std.proofs.Common.{Ok, Err, refl}
+use Rattle.moka_model.specs.Calls.{Entered, GaveNothing}
 use Rattle.moka_model.specs.Entries.{entry_of}
-use Rattle.moka_turns.specs.Handles.{turn_name}
-use Rattle.moka_state.proofs.Forms.{form-refused}
 use Rattle.moka_state.proofs.state.State.optionally_get_with.Goals as goal
 
 pub returns-in-Err-clause-form : goal.returns-in-Err-clause-form
 returns-in-Err-clause-form g c =
-    let begins = rw c.in-Err.is at c.begin_at_once.ensures.begins in (
-      None,
-      Err c.in-Err.cause,
-      λ settings steps stands. form-refused g.K.PartialEq.eq g.V.Clone.is_clone g.V.Clone.is_infallible settings steps _ c.args.key Optionally None c.args.now c.in-Err.cause (begins.reply settings steps stands),
-      refl,
-      tt,
-      begins.refused,
-    )
+    let loads = rw c.in-Err.is at c.load.ensures.form in
+    (loads.0, Err c.in-Err.cause, loads.1, refl, loads.2, loads.3)
 
-pub returns-in-Found-clause-form : goal.returns-in-Found-clause-form
-returns-in-Found-clause-form g c =
-    let begins = rw (c.in-Ok.is, c.in-Found.is) at c.begin_at_once.ensures.begins in (
-      None,
-      Ok (Entered (entry_of c.in-Found.entry)),
-      λ settings steps stands. (tt, begins.reply settings steps stands, begins.stands settings steps stands),
-      c.into_value.ensures,
-      tt,
-      tt,
-    )
+pub returns-in-Ok-Some-clause-form : goal.returns-in-Ok-Some-clause-form
+returns-in-Ok-Some-clause-form g c =
+    let loads = rw (c.in-Ok-Some.is, c.in-Ok-Some.field-0-is) at c.load.ensures.form in
+    (loads.0, Ok (Entered (entry_of c.in-Ok-Some.entry)), loads.1, c.into_value.ensures, loads.2, loads.3)
 
-pub returns-in-Run-clause-form : goal.returns-in-Run-clause-form
-returns-in-Run-clause-form g c =
-    let begins = rw (c.in-Ok.is, c.in-Run.is) at c.begin_at_once.ensures.begins in
-    let ends = c.end_with_option.ensures.ends in (
-      Some c.init.result,
-      ends.0,
-      λ settings steps stands. (turn_name c.in-Run.turn, begins.reply settings steps stands, ends.1 settings _ (begins.stands settings steps stands)),
-      ends.2,
-      c.init.ensures,
-      tt,
-    )
+pub returns-in-Ok-None-clause-form : goal.returns-in-Ok-None-clause-form
+returns-in-Ok-None-clause-form g c =
+    let loads = rw (c.in-Ok-None.is, c.in-Ok-None.field-0-is) at c.load.ensures.form in
+    (loads.0, Ok GaveNothing, loads.1, tt, loads.2, loads.3)

@@ -1,4 +1,4 @@
-use Rattle.std.proofs.Common.{[], ◌∷◌, ◌++◌, sym, ap, ◌∙◌, subst, arith, append_assoc}
+use Rattle.std.proofs.Common.{[], ◌∷◌, ◌++◌, refl, sym, ap, ◌∙◌, subst, arith, append_assoc}
 use Rattle.std.proofs.lemmas.List.{append-nil}
 use Rattle.moka_model.specs.SizeLaws.{LimitsSome}
 use Rattle.moka_state.proofs.Counts.{weighs_one, writes-bounded}
@@ -10,6 +10,7 @@ pub loop-step-init : goal.loop-step-init
 loop-step-init g c = record {
   kept = rw c.from_vec-left.ensures.items c.requires;
   room = omega (arith, c.in-Ok.ensures.len, c.in-Ok.ensures.exact, c.from_vec-left.ensures.len, c.len.ensures);
+  settings = refl;
   so_far = λ given before stands. ([], sym c.from_vec-left.ensures.items, rw c.in-Ok.ensures.items tt, stands);
 }
 
@@ -19,6 +20,7 @@ loop-step-preserved g c =
     record {
       kept = kept.1;
       room = omega (arith, c.loop-step.invariant.room, c.in-Some.ensures.len, c.push_reserved.ensures.len, c.push_reserved.ensures.capacity);
+      settings = c.step-reply.ensures.settings ∙ c.loop-step.invariant.settings;
       so_far = λ given before stands.
           let was = c.loop-step.invariant.so_far given before stands in
           let reply = c.step-reply.ensures.reply given _ was.3 in (
@@ -55,3 +57,6 @@ returns-clause-conserved g c given before stands =
     let empty = same_as_rest-empty c.loop-step.left.items (c.in_default-pop_front.ensures.items ∙ c.in_default-pop_front.ensures.rest) in
     let whole = was.1 ∙ ap (λ l. was.0 ++ l) empty ∙ append-nil was.0 in
     rw whole (run-conserved g.K.PartialEq.eq g.C.CacheTypes.test g.V.Clone.is_clone g.V.Clone.is_infallible given g.met.K.Eq.laws _ before was.0 c.loop-step.replies.items was.2 was.3)
+
+pub returns-clause-settings : goal.returns-clause-settings
+returns-clause-settings g c = c.loop-step.invariant.settings

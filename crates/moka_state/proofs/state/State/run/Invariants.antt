@@ -12,7 +12,7 @@ use Rattle.moka_state.specs.Step.{StepKeeps, IsRun, after_all}
 use Rattle.moka_state.proofs.state.State.run.Given as goal
 
 -- The steps done so far and their replies are a run, and the state stands for what it leaves; there is room for a
--- reply to each step that is left.
+-- reply to each step that is left. The settings are those of the start.
 abbrev pub invariant-loop-step : goal.invariant-loop-step
 invariant-loop-step g l =
     let hash = hash_by g.C.Hasher.BuildHasher.build_hasher g.C.Hasher.Hasher.Hasher.write g.C.Hasher.Hasher.Hasher.finish g.K.Hash.hash_input in
@@ -20,6 +20,7 @@ invariant-loop-step g l =
     record {
       kept : AllByRecursion (StepKeeps g.C.CacheTypes.keeps g.C.Predicate.Predicate.tests g.C.CacheTypes.test) l.left.items;
       room : vec_len l.replies + deque_len l.left ≤ vec_capacity l.replies;
+      settings : l.self.settings ≡ l.fn.self.settings;
       so_far : (given : Settings _ _) (before : List (AcceptedStep _ _ _)) → StandsFor {E = g.row.C-Error.Denot} g.K.PartialEq.eq g.V.Clone.is_clone given (view l.fn.self) before
           → (done : List (Step _ _ _ _ _ _ _ _ _ _ _ _)) × (l.fn.steps.items ≡ done ++ l.left.items) × IsRun g.K.PartialEq.eq g.C.CacheTypes.test given g.V.Clone.is_clone g.V.Clone.is_infallible before done l.replies.items × StandsFor g.K.PartialEq.eq g.V.Clone.is_clone given (view l.self) (after_all g.K.PartialEq.eq g.C.CacheTypes.test given done l.replies.items before);
     }

@@ -1,12 +1,6 @@
 use Rattle.moka_state.proofs.TurnSteps.{begin-keeps, compute-keeps, finish-keeps, abandon-keeps, collect-keeps, leave-keeps}
 use Rattle.moka_state.proofs.state.State.step_with_hash.Goals as goal
 
-pub returns-in-Ok-clause-stands : goal.returns-in-Ok-clause-stands
-returns-in-Ok-clause-stands g c given steps stands = rw c.in-Get.is (rw c.deref.ensures at (c.in-Ok.ensures.ends.stands given steps stands))
-
-pub returns-in-Ok-write-clause-stands : goal.returns-in-Ok-write-clause-stands
-returns-in-Ok-write-clause-stands g c given steps stands = rw c.in-Insert.is (c.in-Ok-write.ensures.ends.stands given steps stands)
-
 pub returns-in-Invalidate-clause-stands : goal.returns-in-Invalidate-clause-stands
 returns-in-Invalidate-clause-stands g c given steps stands = rw c.in-Invalidate.is (rw c.deref-in-Invalidate.ensures at (c.invalidate_with_hash.ensures.stands given steps stands))
 
@@ -21,9 +15,6 @@ returns-in-TakeNotice-clause-stands g c given steps stands = rw c.in-TakeNotice.
 
 pub returns-in-InvalidateAll-clause-stands : goal.returns-in-InvalidateAll-clause-stands
 returns-in-InvalidateAll-clause-stands g c given steps stands = rw c.in-InvalidateAll.is (c.invalidate_all.ensures.stands given steps stands)
-
-pub returns-in-Ok-invalidate_entries_with_arc_fun-clause-stands : goal.returns-in-Ok-invalidate_entries_with_arc_fun-clause-stands
-returns-in-Ok-invalidate_entries_with_arc_fun-clause-stands g c given steps stands = rw c.in-InvalidateIf.is (c.in-Ok-invalidate_entries_with_arc_fun.ensures.stands given steps stands)
 
 pub returns-in-Begin-clause-kept : goal.returns-in-Begin-clause-kept
 returns-in-Begin-clause-kept g c = rw c.in-Begin.is (begin-keeps g.C.CacheTypes.keeps c.in-Begin.key c.in-Begin.kind c.in-Begin.replace c.in-Begin.now c.step_begin.result c.step_begin.ensures.kept)
@@ -40,5 +31,5 @@ returns-in-Abandon-clause-kept g c = rw c.in-Abandon.is (abandon-keeps g.C.Cache
 pub returns-in-Collect-clause-kept : goal.returns-in-Collect-clause-kept
 returns-in-Collect-clause-kept g c = rw c.in-Collect.is (collect-keeps g.C.CacheTypes.keeps c.in-Collect.name c.step_collect.result c.step_collect.ensures.no_notice)
 
-pub returns-clause-kept : goal.returns-clause-kept
-returns-clause-kept g c = rw c.in-Leave.is (leave-keeps g.C.CacheTypes.keeps c.in-Leave.name c.step_leave.result c.step_leave.ensures.no_notice)
+pub returns-in-Leave-clause-kept : goal.returns-in-Leave-clause-kept
+returns-in-Leave-clause-kept g c = rw c.in-Leave.is (leave-keeps g.C.CacheTypes.keeps c.in-Leave.name c.step_leave.result c.step_leave.ensures.no_notice)

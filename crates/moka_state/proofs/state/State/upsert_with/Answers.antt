@@ -6,7 +6,7 @@ use Rattle.moka_state.proofs.state.State.upsert_with.Goals as goal
 
 pub returns-in-Err-clause-form : goal.returns-in-Err-clause-form
 returns-in-Err-clause-form g c =
-    let begins = rw c.in-Err.is at c.open_at_once.ensures.begins in (
+    let begins = rw c.in-Err.is at c.begin_compute_now.ensures.begins in (
       None,
       None,
       Err c.in-Err.cause,
@@ -18,12 +18,12 @@ returns-in-Err-clause-form g c =
 
 pub returns-clause-form : goal.returns-clause-form
 returns-clause-form g c =
-    let begins = rw (c.in-Ok.is, c.in-Run.is) at c.open_at_once.ensures.begins in
+    let begins = rw c.in-Ok.is at c.begin_compute_now.ensures.begins in
     let ends = c.end_with_put.ensures.ends in (
-      c.in-Run.shown,
+      c.in-Ok.begun.shown,
       Some c.f.result,
       ends.0,
-      λ settings steps stands. (turn_name c.in-Run.turn, begins.reply settings steps stands, ends.1 settings _ (begins.stands settings steps stands)),
+      λ settings steps stands. (turn_name c.in-Ok.begun.turn, begins.reply settings steps stands, ends.1 settings _ (begins.stands settings steps stands)),
       ends.2,
       c.f.ensures,
       tt,

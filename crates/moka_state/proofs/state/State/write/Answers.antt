@@ -1,11 +1,13 @@
-use Rattle.std.proofs.Common.{◌≡◌, ℕ, ◌==◌, true, Option, Some, None, ◌∙◌, sym, refl}
+use Rattle.std.proofs.Common.{◌≡◌, ℕ, ◌==◌, true, Option, Some, None, ◌∙◌, ap, sym, refl}
 use Rattle.std.specs.Option.{option_eq}
 use Rattle.std.proofs.lemmas.Bool.{true≢false}
+use Rattle.moka_model.specs.Lives.{Settings}
 use Rattle.moka_model.specs.Numbers.{stores_nothing}
 use Rattle.moka_state.proofs.Becoming.{becomes-passed}
 use Rattle.moka_model.specs.Steps.{events_in}
 use Rattle.moka_model.specs.Calls.{Insert}
 use Rattle.moka_model.proofs.Callers.{view-of, stands-after}
+use Rattle.moka_state.proofs.Finishes.{never-replaced}
 use Rattle.moka_state.proofs.Inserts.{view-nothing}
 use Rattle.moka_state.proofs.state.State.write.Goals as goal
 
@@ -13,6 +15,13 @@ use Rattle.moka_state.proofs.state.State.write.Goals as goal
 nothing-at : (capacity : Option ℕ) → true ≡ option_eq (λ a b. a == b) capacity (Some 0) → stores_nothing capacity ≡ true
 nothing-at None e = cc
 nothing-at (Some capacity) e = sym e
+
+pub returns-then-eq-clause-replaces : goal.returns-then-eq-clause-replaces
+returns-then-eq-clause-replaces g c given steps stands =
+    let s = c.self.inside in
+    let there = rw (← c.self.view_is) at stands in
+    let nothing = ap (λ (t : Settings _ _). stores_nothing t.max_capacity) (sym there.settings) ∙ nothing-at s.housekeeper.max_capacity c.if-eq.ensures in
+    sym (never-replaced g.K.PartialEq.eq given nothing steps there.legal (g.S.IntoArc.key_of c.args.key) c.args.now)
 
 pub returns-then-eq-clause-ends : goal.returns-then-eq-clause-ends
 returns-then-eq-clause-ends g c =

@@ -1,31 +1,41 @@
-use Rattle.std.proofs.Common.{◌≡◌, inl, inr, None, not, ◌||◌, refl, sym, ap, ◌∙◌}
-use Rattle.moka_model.specs.Lives.{has_come}
-use Rattle.moka_rows.specs.declared.rows.EntryInfo.{EntryInfo}
+use Rattle.std.proofs.Common.{ℕ, Bool, List, inl, inr, None, Option, refl, sym, ◌∙◌}
+use denote.Ref.{Bor}
+use Rattle.std.specs.Fn.{Mut}
+use Rattle.moka_rows.specs.declared.rows.Row.{Row}
+use Rattle.moka_table.specs.LiveEntry.{Accepts, FindsLive}
+use Rattle.moka_table.proofs.Finds.{one-found}
 use Rattle.moka_table.proofs.table.Table.find_acceptable.Goals as goal
 
-pub returns-then-is_dead-clause-accepts : goal.returns-then-is_dead-clause-accepts
-returns-then-is_dead-clause-accepts g c =
-    let dead = c.is_dead.ensures ∙ ap (λ (i : EntryInfo). i.is_hidden || has_come i.deadline c.args.now) c.info.ensures in
-    (None, inr (c.in_ok-number.number, c.row-row.result.now, c.row-row.ensures, rw c.row-row.ensures at c.in_ok-number.ensures.found, inl (ap not (sym dead ∙ c.if-is_dead.true), refl)))
+-- where no live value is found, none is accepted, and the closure said nothing
+accepts-none : {K V F : Type 0} (eq : K → K → Bool) (call : Mut F (Bor V × Unit {0}) Bool) (replace_if : Option F) (key : K) (hash at : ℕ) (rows : List (ℕ × Row K V)) → FindsLive eq key hash at rows None → Accepts eq call replace_if key hash at rows None None
+accepts-none eq call replace_if key hash at rows (inl none) = inl (refl, none)
+accepts-none eq call replace_if key hash at rows (inr (n, row, there, of_key, dead)) = inr (n, row, there, of_key, inl (dead, refl))
+
+pub returns-in_err-number-clause-accepts : goal.returns-in_err-number-clause-accepts
+returns-in_err-number-clause-accepts g c = rw c.from_residual.ensures (None, accepts-none g.K.PartialEq.eq g.F.FnMut c.args.replace_if.now c.args.key.now c.args.hash c.args.now _ c.in_err-number.ensures)
 
 pub returns-then-asks_to_replace-clause-accepts : goal.returns-then-asks_to_replace-clause-accepts
 returns-then-asks_to_replace-clause-accepts g c =
-    let dead = c.is_dead.ensures ∙ ap (λ (i : EntryInfo). i.is_hidden || has_come i.deadline c.args.now) c.info.ensures in
-    let said = c.asks_to_replace.ensures.says in
-    (said.0, inr (c.in_ok-number.number, c.row-row.result.now, c.row-row.ensures, rw c.row-row.ensures at c.in_ok-number.ensures.found, inr (ap not (sym dead ∙ c.if-is_dead.false), said.1, sym said.2 ∙ c.if-asks_to_replace.true)))
+    let found = c.in_ok-number.ensures in
+    let same = one-found _ c.row.result.now found.0 c.row.ensures found.1 in
+    let said = rw same at c.asks_to_replace.ensures.says in
+    (said.0, inr (c.in_ok-number.number, found.0, found.1, found.2, inr (found.3, said.1, sym said.2 ∙ c.if-asks_to_replace.true)))
 
 pub returns-clause-accepts : goal.returns-clause-accepts
 returns-clause-accepts g c =
-    let dead = c.is_dead.ensures ∙ ap (λ (i : EntryInfo). i.is_hidden || has_come i.deadline c.args.now) c.info.ensures in
-    let said = c.asks_to_replace.ensures.says in
-    (said.0, (c.row-row.result.now, c.row-row.ensures, rw c.row-row.ensures at c.in_ok-number.ensures.found, ap not (sym dead ∙ c.if-is_dead.false), said.1, sym said.2 ∙ c.if-asks_to_replace.false))
+    let found = c.in_ok-number.ensures in
+    let same = one-found _ c.row.result.now found.0 c.row.ensures found.1 in
+    let said = rw same at c.asks_to_replace.ensures.says in
+    (said.0, (found.0, found.1, found.2, found.3, said.1, sym said.2 ∙ c.if-asks_to_replace.false))
 
 pub returns-then-asks_to_replace-clause-left : goal.returns-then-asks_to_replace-clause-left
 returns-then-asks_to_replace-clause-left g c =
-    let dead = c.is_dead.ensures ∙ ap (λ (i : EntryInfo). i.is_hidden || has_come i.deadline c.args.now) c.info.ensures in
-    inr (c.in_ok-number.number, c.row-row.result.now, c.row-row.ensures, rw c.row-row.ensures at c.in_ok-number.ensures.found, ap not (sym dead ∙ c.if-is_dead.false), c.asks_to_replace.ensures.left)
+    let found = c.in_ok-number.ensures in
+    let same = one-found _ c.row.result.now found.0 c.row.ensures found.1 in
+    inr (c.in_ok-number.number, found.0, found.1, found.2, found.3, rw same at c.asks_to_replace.ensures.left)
 
 pub returns-clause-left : goal.returns-clause-left
 returns-clause-left g c =
-    let dead = c.is_dead.ensures ∙ ap (λ (i : EntryInfo). i.is_hidden || has_come i.deadline c.args.now) c.info.ensures in
-    inr (c.in_ok-number.number, c.row-row.result.now, c.row-row.ensures, rw c.row-row.ensures at c.in_ok-number.ensures.found, ap not (sym dead ∙ c.if-is_dead.false), c.asks_to_replace.ensures.left)
+    let found = c.in_ok-number.ensures in
+    let same = one-found _ c.row.result.now found.0 c.row.ensures found.1 in
+    inr (c.in_ok-number.number, found.0, found.1, found.2, found.3, rw same at c.asks_to_replace.ensures.left)

@@ -1,0 +1,16 @@
+use Rattle.std.proofs.Common.{◌∙◌}
+use Rattle.std.specs.Arc.{arc_value}
+use Rattle.moka_state.proofs.Forms.{if-ok}
+use Rattle.moka_state.proofs.Loaders.{given-more, owes-more}
+use Rattle.moka_sync.proofs.cache.Cache.load_by_ref.Goals as goal
+
+pub load_shared-requires-clause-keeps : goal.load_shared-requires-clause-keeps
+load_shared-requires-clause-keeps g c given post =
+    let copy = arc_value c.in_ok-copy.copy in
+    owes-more (λ v. g.met.C.CacheTypes.equal_keys_keep c.args.key.now copy v (c.requires.copies c.args.key.now copy c.in_ok-copy.ensures)) _ (c.requires.keeps given post)
+
+pub returns : goal.returns
+returns g c =
+    let copy = arc_value c.in_ok-copy.copy in
+    let same = g.met.K.Eq.laws.symm copy c.args.key.now ∙ c.requires.copies c.args.key.now copy c.in_ok-copy.ensures in
+    if-ok c.load_shared.result (λ loaded. given-more g.C.CacheTypes.keeps copy c.args.key.now (λ v. g.met.C.CacheTypes.equal_keys_keep copy c.args.key.now v same) _) c.load_shared.ensures
