@@ -5,6 +5,7 @@ use moka::policy::CacheTypes;
 use moka::ready::PlainRecorded;
 use moka::state::{CacheState, Reply, Step};
 use moka::sync::recorded::{Entries, Naming, Pass, RecordedCache};
+use moka_replies::compare::is_same_reply;
 use std::sync::Wait;
 
 /// Closes the cache. Returns its history.
@@ -18,29 +19,23 @@ pub(crate) fn history<C: CacheTypes<u64, u64>, L: Naming, W: Wait + Drop>(
     Ok(entries)
 }
 
-// Returns the value of a reply that has one.
-fn value<C: CacheTypes<u64, u64>>(reply: Reply<u64, u64, C>) -> Option<u64> {
-    match reply {
-        Reply::Entered(entry) => Some(entry.into_value()),
-        _ => None,
-    }
-}
-
-// Makes a step. Returns the value of its reply.
+// Makes a step. Returns whether its reply is the same as the recorded one.
 fn make(
     fresh: &mut CacheState<u64, u64, PlainRecorded>,
     step: Step<u64, u64, PlainRecorded>,
-) -> Option<u64> {
-    value(fresh.step(step))
+    recorded: Reply<u64, u64, PlainRecorded>,
+) -> bool {
+    let reply = fresh.step(step);
+    is_same_reply(&reply, &recorded)
 }
 
-/// Makes the steps of a history on an owned cache, and compares the values of the replies.
+/// Makes the steps of a history on an owned cache, and compares the replies.
 pub(crate) fn replay(
     entries: Entries<Step<u64, u64, PlainRecorded>, Reply<u64, u64, PlainRecorded>>,
     mut fresh: CacheState<u64, u64, PlainRecorded>,
 ) -> Result<()> {
     for (_, step, reply) in entries {
-        ensure!(make(&mut fresh, step) == value(reply), "another reply");
+        ensure!(make(&mut fresh, step, reply), "another reply");
     }
     Ok(())
 }

@@ -10,13 +10,14 @@ mod memoizer;
 mod predicate;
 mod shared_memoizer;
 mod struct_value;
+mod two_threads;
 
 use anyhow::Result;
 use std::env;
 use std::process::ExitCode;
 
 const USAGE: &str = "usage: examples_types NAME .., each NAME one of: \
-    blobs calls expiring memoizer predicate shared_memoizer struct_value";
+    blobs calls expiring memoizer predicate shared_memoizer struct_value two_threads";
 
 fn main(rt: HostRuntime) -> Result<ExitCode> {
     let mut is_known = false;
@@ -31,6 +32,7 @@ fn main(rt: HostRuntime) -> Result<ExitCode> {
             "predicate" => predicate::main(rt)?,
             "shared_memoizer" => shared_memoizer::main(rt)?,
             "struct_value" => struct_value::main(rt)?,
+            "two_threads" => two_threads::main(rt)?,
             _ => is_known = false,
         }
         if !is_known {

@@ -47,6 +47,7 @@ pub mod sync {
 
     /// Selectors: a key, for exactly one call. Those of shared caches, and those of owned ones.
     pub mod entry_selector {
+        pub use moka_segmented::entry_selector::SegmentedEntrySelector;
         pub use moka_state::entry_selector::StateEntrySelector;
         pub use moka_sync::entry_selector::{OwnedKeyEntrySelector, RefKeyEntrySelector};
     }
@@ -98,7 +99,7 @@ pub mod state {
     pub use moka_state::predicate_error::PredicateError;
     #[doc(hidden)]
     pub use moka_state::rows::{Access, Order, Previous, Row};
-    pub use moka_state::rows::{EntryInfo, OwnLife, RowStore};
+    pub use moka_state::rows::{EntryInfo, OwnLife, RowId, RowStore};
     pub use moka_state::slab_rows::SlabRows;
     pub use moka_state::state::{CacheState, InsertRefused, Settings, State};
     pub use moka_state::step::{Reply, Step};

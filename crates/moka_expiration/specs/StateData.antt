@@ -12,7 +12,7 @@ use Rattle.moka_expiration.specs.Behaviour.{BehaviourData}
 abbrev pub estimates : {F : Type 0} → (F → ℕ → F) → (F → ℕ → ℕ) → F → List ℕ → ℕ → ℕ
 estimates noted count source more hash = count (after_notes source noted more) hash
 
--- What a state was built with, as data. It never changes.
+-- What a state was built with, as data. That its name stays as it was is in no clause of some calls.
 pub record SettingsData (H W X : Type 0) : Type 0 where
   pub name : Option (List ℕ)
   pub time_to_live : Option ℕ

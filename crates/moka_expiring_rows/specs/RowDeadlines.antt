@@ -1,6 +1,6 @@
 -- The deadlines of rows, in the order of the rows. A deadline is listed under the number of its row plus 1, since 0 is
 -- no number there.
-use Rattle.std.specs.Prelude.{◌≡◌, ℕ, suc, ◌-◌, ◌^◌, ◌<◌, ◌≤◌, min, Bool, true, false, Option, Some, None, List, [], ◌∷◌, ◌++◌, length}
+use Rattle.std.specs.Prelude.{◌≡◌, ℕ, suc, ◌<◌, Bool, true, false, Option, Some, None, List, [], ◌∷◌, ◌++◌, length}
 use Rattle.moka_rows.specs.declared.rows.Row.{Row}
 use Rattle.moka_rows.specs.Rows.{row_under, without_row}
 use Rattle.moka_rows.specs.declared.rows.Order.{Order}
@@ -32,10 +32,9 @@ abbrev pub HasPlace : ℕ → Option ℕ → ℕ → Type 0
 HasPlace n None known = Unit {0}
 HasPlace n (Some deadline) known = suc n < known
 
--- What is recorded of a row. If no row has had a deadline, this one has none. Its number is below the top,
--- unless it is the greatest number of 64 bits.
+-- What is recorded of a row. If no row has had a deadline, this one has none. Its number is below the top.
 abbrev pub IsNoted : {K V : Type 0} → Bool → ℕ → ℕ × Row K V → Type 0
-IsNoted has_deadlines top p = (has_deadlines ≡ false → p.1.info.deadline ≡ None) × (min (suc p.0) (2 ^ 64 - 1) ≤ top)
+IsNoted has_deadlines top p = (has_deadlines ≡ false → p.1.info.deadline ≡ None) × (p.0 < top)
 
 -- Whether an order is that of the resident rows.
 abbrev pub is_of_admitted : Order → Bool

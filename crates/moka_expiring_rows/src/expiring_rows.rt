@@ -13,7 +13,7 @@ ghost use Rattle.moka_expiring_rows.specs.RowDeadlines.{without_deadline, is_of_
 ghost use Rattle.moka_expiring_rows.specs.RowDeadlines.{HasPlace, IsNoted};
 
 use moka_expiry_index::expiry_index::ExpiryIndex;
-use moka_rows::rows::{Access, EntryInfo, Order, Previous, Row, RowStore};
+use moka_rows::rows::{Access, EntryInfo, Order, Previous, Row, RowId, RowStore};
 use moka_slab::slab_rows::{FIRST, SlabRows};
 use std::alloc::{AllocError, Global};
 
@@ -52,7 +52,7 @@ pub struct ExpiringRows<K, V> {
 
 /// Appends the deadline of a row, if it has one. Returns whether the order is still whole.
 #[inline(always)]
-fn enlist(deadlines: &mut ExpiryIndex, is_whole: bool, number: usize, deadline: Option<u64>) -> bool
+fn enlist(deadlines: &mut ExpiryIndex, is_whole: bool, number: RowId, deadline: Option<u64>) -> bool
     ensures listed { result ≡ true → (is_whole ≡ true)
         × (order_of deadlines.new ≡ order_of deadlines.old ++ deadline_in number deadline) }
     ensures whole { is_whole ≡ true
@@ -70,7 +70,7 @@ fn enlist(deadlines: &mut ExpiryIndex, is_whole: bool, number: usize, deadline: 
 
 /// Removes the deadline of a row, if it has one. Returns whether the order is still whole.
 #[inline(always)]
-fn delist(deadlines: &mut ExpiryIndex, is_whole: bool, number: usize, deadline: Option<u64>) -> bool
+fn delist(deadlines: &mut ExpiryIndex, is_whole: bool, number: RowId, deadline: Option<u64>) -> bool
     ensures listed { result ≡ true → (is_whole ≡ true)
         × (order_of deadlines.new ≡ without_deadline number deadline (order_of deadlines.old)) }
     ensures whole { is_whole ≡ true
@@ -93,7 +93,7 @@ fn delist(deadlines: &mut ExpiryIndex, is_whole: bool, number: usize, deadline: 
 fn relist(
     deadlines: &mut ExpiryIndex,
     is_whole: bool,
-    number: usize,
+    number: RowId,
     before: Option<u64>,
     after: Option<u64>,
 ) -> bool
@@ -159,7 +159,7 @@ impl<K: Eq + Drop, V: Drop> RowStore<K, V> for ExpiringRows<K, V> {
             is_whole: true,
             has_deadlines: false,
             // So that `reserve` counts places from the first number that a row can get.
-            top: FIRST,
+            top: FIRST as usize,
         }
     }
 
@@ -170,7 +170,7 @@ impl<K: Eq + Drop, V: Drop> RowStore<K, V> for ExpiringRows<K, V> {
 
     /// Returns the number of the row with a key. Reads no more rows than have the key's hash.
     #[inline(always)]
-    fn find(&self, key: &K, hash: u64, reads: &mut u64) -> Option<usize>
+    fn find(&self, key: &K, hash: u64, reads: &mut u64) -> Option<RowId>
         requires { reads.old ≡ 0 }
         ensures found { IfSome result
             (λ number. IfSome (row_under number (rows_in self.now)) (IsRowOf K.eq key.now hash)) }
@@ -184,12 +184,12 @@ impl<K: Eq + Drop, V: Drop> RowStore<K, V> for ExpiringRows<K, V> {
     }
 
     #[inline(always)]
-    fn row(&self, number: usize) -> &Row<K, V> {
+    fn row(&self, number: RowId) -> &Row<K, V> {
         self.rows.row(number)
     }
 
     #[inline(always)]
-    fn hash(&self, number: usize) -> u64 {
+    fn hash(&self, number: RowId) -> u64 {
         self.rows.hash(number)
     }
 
@@ -198,7 +198,7 @@ impl<K: Eq + Drop, V: Drop> RowStore<K, V> for ExpiringRows<K, V> {
     }
 
     #[inline(always)]
-    fn is_admitted(&self, number: usize) -> bool {
+    fn is_admitted(&self, number: RowId) -> bool {
         self.rows.is_admitted(number)
     }
 
@@ -231,7 +231,7 @@ impl<K: Eq + Drop, V: Drop> RowStore<K, V> for ExpiringRows<K, V> {
     }
 
     #[inline(always)]
-    fn add(&mut self, row: Row<K, V>) -> usize
+    fn add(&mut self, row: Row<K, V>) -> RowId
         requires { 0 < room_of self.old }
         ensures fresh { row_under result (rows_in self.old) ≡ None }
         ensures waiting { waiting_of self.new ≡ waiting_of self.old ++ (result, row) ∷ [] }
@@ -240,14 +240,14 @@ impl<K: Eq + Drop, V: Drop> RowStore<K, V> for ExpiringRows<K, V> {
     {
         self.has_deadlines |= row.info().deadline.is_some();
         let number = self.rows.add(row);
-        self.top = self.top.max(number.saturating_add(1));
+        self.top = self.top.max(number as usize + 1);
         number
     }
 
     /// Applies an access to a row, and returns the row's metadata before it and the row's order.
     /// If no deadline is listed and this access gives none, only the slab changes.
     #[inline(always)]
-    fn touch(&mut self, number: usize, touch: Access) -> (EntryInfo, Order) {
+    fn touch(&mut self, number: RowId, touch: Access) -> (EntryInfo, Order) {
         let (info, order) = self.rows.touch(number, touch);
         if touch.deadline.is_none() && self.deadlines.is_unused() {
             return (info, order);
@@ -260,7 +260,7 @@ impl<K: Eq + Drop, V: Drop> RowStore<K, V> for ExpiringRows<K, V> {
     }
 
     #[inline(always)]
-    fn overwrite(&mut self, number: usize, value: V, info: EntryInfo) -> Previous<V> {
+    fn overwrite(&mut self, number: RowId, value: V, info: EntryInfo) -> Previous<V> {
         let taken = self.rows.overwrite(number, value, info);
         let before = deadline_if_admitted(taken.order, taken.info.deadline);
         let after = deadline_if_admitted(taken.order, info.deadline);
@@ -271,7 +271,7 @@ impl<K: Eq + Drop, V: Drop> RowStore<K, V> for ExpiringRows<K, V> {
 
     /// Marks a row invalidated. Its deadline keeps its place in the order.
     #[inline(always)]
-    fn hide(&mut self, number: usize) {
+    fn hide(&mut self, number: RowId) {
         self.rows.hide(number);
     }
 
@@ -281,7 +281,7 @@ impl<K: Eq + Drop, V: Drop> RowStore<K, V> for ExpiringRows<K, V> {
     }
 
     #[inline(always)]
-    fn first_admitted(&self) -> Option<usize> {
+    fn first_admitted(&self) -> Option<RowId> {
         self.rows.first_admitted()
     }
 
@@ -289,7 +289,7 @@ impl<K: Eq + Drop, V: Drop> RowStore<K, V> for ExpiringRows<K, V> {
     /// time if the deadlines of all resident rows are in the order, except at the last moment, 2^64
     /// - 1.
     #[inline(always)]
-    fn first_expired(&self, now: u64) -> Option<usize> {
+    fn first_expired(&self, now: u64) -> Option<RowId> {
         if self.is_whole {
             match self.deadlines.first_due(now) {
                 Some(place) => Some(place - 1),
@@ -301,17 +301,17 @@ impl<K: Eq + Drop, V: Drop> RowStore<K, V> for ExpiringRows<K, V> {
     }
 
     #[inline(always)]
-    fn first_waiting(&self) -> Option<usize> {
+    fn first_waiting(&self) -> Option<RowId> {
         self.rows.first_waiting()
     }
 
     #[inline(always)]
-    fn next(&self, number: usize, visits: &mut u128) -> Option<usize> {
+    fn next(&self, number: RowId, visits: &mut u128) -> Option<RowId> {
         self.rows.next(number, visits)
     }
 
     #[inline(always)]
-    fn admit(&mut self, number: usize) {
+    fn admit(&mut self, number: RowId) {
         self.rows.admit(number);
         // If no row has had a deadline, this one has none.
         if self.has_deadlines {
@@ -321,7 +321,7 @@ impl<K: Eq + Drop, V: Drop> RowStore<K, V> for ExpiringRows<K, V> {
     }
 
     #[inline(always)]
-    fn remove(&mut self, number: usize) -> (Row<K, V>, Order) {
+    fn remove(&mut self, number: RowId) -> (Row<K, V>, Order) {
         let (row, order) = self.rows.remove(number);
         let before = deadline_if_admitted(order, row.info().deadline);
         self.is_whole = delist(&mut self.deadlines, self.is_whole, number, before);

@@ -5,6 +5,7 @@ ghost use Rattle.moka_expiry_index.specs.MinTree.{AreLeast, leaf, leftmost, neve
 ghost use Rattle.moka_expiry_index.specs.Slots.{IsTree, AreSlots, listed, is_due};
 
 use crate::min_tree::{self, NEVER, clear_from, first_within, rebuild, set_leaf};
+use moka_rows::rows::RowId;
 use std::alloc::{AllocError, Global};
 
 /// Numbers in an order, each with a deadline.
@@ -21,7 +22,7 @@ use std::alloc::{AllocError, Global};
 #[derive(Drop)]
 pub struct ExpiryIndex {
     // The number in each slot, and 0 in an empty one.
-    numbers: Vec<u32>,
+    numbers: Vec<RowId>,
     // The tree. Its leaves are the deadlines of the slots, `NEVER` for an empty one.
     nodes: Vec<u64>,
     // The number of slots: 0, or `2^height`.
@@ -40,7 +41,7 @@ pub struct ExpiryIndex {
 
 /// Moves the numbers in the slots to the front, in the same order, and returns how many there are.
 fn close_gaps(
-    numbers: &mut Vec<u32>,
+    numbers: &mut Vec<RowId>,
     nodes: &mut Vec<u64>,
     size: usize,
     places: &mut Vec<u32>,
@@ -76,7 +77,7 @@ fn close_gaps(
 }
 
 /// Returns the first number in the slots whose deadline has come, found by a walk over the slots.
-fn walk_to_due(numbers: &[u32], nodes: &[u64], size: usize, now: u64) -> Option<usize>
+fn walk_to_due(numbers: &[RowId], nodes: &[u64], size: usize, now: u64) -> Option<RowId>
     requires long { length nodes.now ≡ 2 * size }
     requires few { length numbers.now ≤ size }
     ensures { result ≡ first_number (filter (is_due now)
@@ -86,7 +87,7 @@ fn walk_to_due(numbers: &[u32], nodes: &[u64], size: usize, now: u64) -> Option<
         let number = numbers[place];
         let deadline = nodes[size + place];
         if number != 0 && deadline <= now {
-            return Some(number as usize);
+            return Some(number);
         }
     }
     None
@@ -94,12 +95,12 @@ fn walk_to_due(numbers: &[u32], nodes: &[u64], size: usize, now: u64) -> Option<
 
 /// Returns the first number in the slots whose deadline has come. `now` is before the last moment.
 fn first_due_in(
-    numbers: &[u32],
+    numbers: &[RowId],
     nodes: &[u64],
     size: usize,
     height: usize,
     now: u64,
-) -> Option<usize>
+) -> Option<RowId>
     requires early { now < never }
     requires least { AreLeast nodes.now size }
     requires long { length nodes.now ≡ 2 * size }
@@ -113,7 +114,7 @@ fn first_due_in(
         (listed (slice_index numbers.now) (leaf nodes.now size) (length numbers.now))) }
 {
     let place = first_within(nodes, size, height, now)?;
-    Some(numbers[place] as usize)
+    Some(numbers[place])
 }
 
 impl ExpiryIndex {
@@ -143,7 +144,7 @@ impl ExpiryIndex {
     /// Returns the first number in the order whose deadline has come at `now`, a moment in
     /// nanoseconds. At the last moment, 2^64 - 1, it visits each slot.
     #[inline(always)]
-    pub fn first_due(&self, now: u64) -> Option<usize>
+    pub fn first_due(&self, now: u64) -> Option<RowId>
         ensures { result ≡ first_number (filter (is_due now) (order_of self.now)) }
     {
         if self.numbers.is_empty() {
@@ -184,7 +185,7 @@ impl ExpiryIndex {
         if number < self.places.len() {
             return Ok(());
         }
-        if number > u32::MAX as usize {
+        if number > RowId::MAX as usize {
             return Err(AllocError);
         }
         self.places.resize(number + 1, 0)
@@ -212,18 +213,18 @@ impl ExpiryIndex {
     }
 
     /// Returns the slot of a number, if it has one.
-    fn slot(&self, number: usize) -> Option<usize>
+    fn slot(&self, number: RowId) -> Option<usize>
         ensures { MatchOption result (row_under number (order_of self.now) ≡ None)
             (IsSlotOf self.now number) }
     {
-        if number == 0 || number >= self.places.len() {
+        if number == 0 || number as usize >= self.places.len() {
             return None;
         }
-        let place = self.places[number] as usize;
+        let place = self.places[number as usize] as usize;
         if place >= self.numbers.len() {
             return None;
         }
-        if self.numbers[place] as usize == number {
+        if self.numbers[place] == number {
             Some(place)
         } else {
             None
@@ -233,7 +234,7 @@ impl ExpiryIndex {
     /// Appends a number with its deadline, and returns whether it did. Does not allocate.
     ///
     /// It does not if the number is in the order already, or if there is no room for it.
-    pub fn push(&mut self, number: usize, deadline: u64) -> bool
+    pub fn push(&mut self, number: RowId, deadline: u64) -> bool
         ensures pushed { result ≡ true →
             order_of self.new ≡ order_of self.old ++ (number, deadline) ∷ [] }
         ensures refused { result ≡ false → order_of self.new ≡ order_of self.old }
@@ -242,7 +243,7 @@ impl ExpiryIndex {
             length (order_of self.old) < room_of self.old → result ≡ true }
         ensures preserves { PreservesRoom self.old self.new }
     {
-        if number == 0 || number >= self.places.len() {
+        if number == 0 || number as usize >= self.places.len() {
             return false;
         }
         if let Some(_stood) = self.slot(number) {
@@ -259,7 +260,7 @@ impl ExpiryIndex {
     }
 
     /// Puts a number into the first slot that is not used up.
-    fn put(&mut self, number: usize, deadline: u64)
+    fn put(&mut self, number: RowId, deadline: u64)
         requires some { 0 < number }
         requires known { number < known_of self.old }
         requires absent { row_under number (order_of self.old) ≡ None }
@@ -268,13 +269,13 @@ impl ExpiryIndex {
         ensures preserves { PreservesRoom self.old self.new }
     {
         let place = self.numbers.len();
-        self.numbers.push_reserved(number as u32);
-        self.places[number] = place as u32;
+        self.numbers.push_reserved(number);
+        self.places[number as usize] = place as u32;
         set_leaf(&mut self.nodes, self.size, place, deadline);
     }
 
     /// Removes a number, if it is in the order. Does not allocate.
-    pub fn remove(&mut self, number: usize)
+    pub fn remove(&mut self, number: RowId)
         ensures order { order_of self.new ≡ without_row number (order_of self.old) }
         ensures preserves { PreservesRoom self.old self.new }
     {

@@ -13,7 +13,7 @@ use moka_expiration::behaviour::Behaviour;
 use moka_expiration::expiration_policy::ExpirationPolicy;
 use moka_expiration::view::BehaviourView;
 use moka_policy::policy::{CacheTypes, EvictionPolicy, FrequencySource};
-use moka_rows::rows::RowStore;
+use moka_rows::rows::{RowId, RowStore};
 use moka_table::table::Table;
 use moka_table::write_slot::{NewValue, WritePlan};
 use std::hash::Hash;
@@ -110,7 +110,7 @@ impl<F: FrequencySource> Housekeeper<F> {
     pub fn hit<K: Hash + Drop, V: Clone, C: CacheTypes<K, V>, R: RowStore<K, V>>(
         &mut self,
         table: &mut Table<K, V, R>,
-        number: usize,
+        number: RowId,
         hash: u64,
         now: u64,
         behaviour: &Behaviour<K, V, C>,

@@ -15,7 +15,7 @@ ghost use Rattle.moka_housekeeper.specs.Visits.{visits_sweeping, visits_first, v
 use moka_model::notification::RemovalCause;
 use moka_policy::frequency::FrequencySource;
 use moka_policy::policy::EvictionPolicy;
-use moka_rows::rows::RowStore;
+use moka_rows::rows::{RowId, RowStore};
 use moka_table::table::Table;
 
 /// Runs a maintenance within a limit of removals, if there is one. Returns whether a part was left
@@ -252,7 +252,7 @@ fn admit_or_drop<K: Eq + Drop, V: Drop, R: RowStore<K, V>, F: FrequencySource>(
     capacity: Option<u64>,
     policy: EvictionPolicy,
     source: &F,
-    number: usize,
+    number: RowId,
     limit: &mut Option<u64>,
     visits: &mut u128,
 ) -> bool
@@ -287,7 +287,7 @@ fn admit_or_drop<K: Eq + Drop, V: Drop, R: RowStore<K, V>, F: FrequencySource>(
 #[inline(always)]
 fn drop_first<K: Eq + Drop, V: Drop, R: RowStore<K, V>>(
     table: &mut Table<K, V, R>,
-    number: usize,
+    number: RowId,
     limit: &mut Option<u64>,
 ) -> bool
     requires first { Some number ≡ first_number table.old.waiting }

@@ -22,6 +22,10 @@ linked-among l k q = stands-among l.orders k q
 pub among-linked : (l : RowIndex) (k : ℕ) → IsLinked l k → IsAmong k (numbers_of l)
 among-linked l k q = among-stands l.orders k q
 
+-- a place has at most 32 bits
+pub few-places : (l : RowIndex) → places_of l ≤ 2 ^ 32
+few-places l = l.orders.ringed.few
+
 -- a number is in one order, and only once
 pub linked-once : (l : RowIndex) (k : ℕ) → IsAmong k (admitted_of l) → IsAbsent k (waiting_of l)
 linked-once l k p q = not-both l.orders.nodes.items (admitted_of l) (waiting_of l) k l.orders.ringed p q

@@ -6,25 +6,26 @@ ghost use Rattle.moka_index.specs.BucketHeads.{first_in, Leads};
 
 use crate::identity_hasher::IdentityHasher;
 use indexmap::IndexMap;
+use moka_rows::rows::RowId;
 use std::hash::BuildHasherDefault;
 
 /// An index from a hash to its first number. It uses the hash as it is.
-pub type BucketHeads = IndexMap<u64, u32, BuildHasherDefault<IdentityHasher>>;
+pub type BucketHeads = IndexMap<u64, RowId, BuildHasherDefault<IdentityHasher>>;
 
 /// Returns the first number of a hash, if it has one.
 #[inline(always)]
-pub fn first(bucket_heads: &BucketHeads, hash: u64) -> Option<usize>
+pub fn first(bucket_heads: &BucketHeads, hash: u64) -> Option<RowId>
     ensures { result ≡ first_in bucket_heads.now hash }
 {
     match bucket_heads.get(&hash) {
-        Some(first) => Some(*first as usize),
+        Some(first) => Some(*first),
         None => None,
     }
 }
 
 /// Returns the place of a hash in the index, and its first number, if it has one.
 #[inline(always)]
-pub fn find_bucket(bucket_heads: &BucketHeads, hash: u64) -> Option<(usize, u32)>
+pub fn find_bucket(bucket_heads: &BucketHeads, hash: u64) -> Option<(usize, RowId)>
     ensures first { option_map (λ p. p.1) result ≡ first_in bucket_heads.now hash }
     ensures place { IfSome result (λ p. slice_get bucket_heads.now.entries p.0 ≡ Some (hash, p.1)) }
 {
@@ -36,7 +37,7 @@ pub fn find_bucket(bucket_heads: &BucketHeads, hash: u64) -> Option<(usize, u32)
 
 /// Puts a number before all others with its hash. Returns the one that was the first before, or 0.
 #[inline(always)]
-pub fn put_first(bucket_heads: &mut BucketHeads, hash: u64, number: u32) -> u32
+pub fn put_first(bucket_heads: &mut BucketHeads, hash: u64, number: RowId) -> RowId
     requires { 0 < spare bucket_heads.old }
     ensures before { MatchOption (first_in bucket_heads.old hash)
         (result ≡ 0) (λ first. result ≡ first) }
@@ -58,8 +59,8 @@ pub fn change_first(
     bucket_heads: &mut BucketHeads,
     place: usize,
     hash: u64,
-    first: u32,
-    number: u32,
+    first: RowId,
+    number: RowId,
 )
     requires { slice_get bucket_heads.old.entries place ≡ Some (hash, first) }
     ensures { Leads bucket_heads.old bucket_heads.new hash (Some number) }
@@ -71,7 +72,7 @@ pub fn change_first(
 
 /// Removes the hash at a place.
 #[inline(always)]
-pub fn drop_first(bucket_heads: &mut BucketHeads, place: usize, hash: u64, first: u32)
+pub fn drop_first(bucket_heads: &mut BucketHeads, place: usize, hash: u64, first: RowId)
     requires { slice_get bucket_heads.old.entries place ≡ Some (hash, first) }
     ensures { Leads bucket_heads.old bucket_heads.new hash None }
 {

@@ -8,13 +8,14 @@ ghost use Rattle.moka_index.specs.Rings.{order, IsRinged};
 use crate::nodes::{
     Node, first, grow, link_before, read, relink, row, set_order, set_same, unlink,
 };
+use moka_rows::rows::RowId;
 use std::alloc::{AllocError, Global};
 
 /// The node that is the end of the resident numbers.
-const ADMITTED: u32 = 0;
+const ADMITTED: RowId = 0;
 
 /// The node that is the end of the pending numbers.
-const WAITING: u32 = 1;
+const WAITING: RowId = 1;
 
 /// One of the two orders.
 #[derive(Clone, Copy)]
@@ -30,7 +31,7 @@ impl Queue {
 
     /// Returns the node that is the end of the queue.
     #[inline(always)]
-    fn end(self) -> u32
+    fn end(self) -> RowId
         ensures { result ≡ end_of self }
     {
         match self {
@@ -89,7 +90,7 @@ impl Deques {
 
     /// Returns the first number of a queue, if there is one.
     #[inline(always)]
-    pub fn first(&self, queue: Queue) -> Option<usize>
+    pub fn first(&self, queue: Queue) -> Option<RowId>
         ensures { result ≡ first_of (queue_in self.now queue) }
     {
         first(&self.nodes, queue.end())
@@ -97,7 +98,7 @@ impl Deques {
 
     /// Returns the number after one that is in an order, if there is one.
     #[inline(always)]
-    pub fn next(&self, number: u32) -> Option<usize>
+    pub fn next(&self, number: RowId) -> Option<RowId>
         requires { Stands self.now number }
         ensures admitted { IsAmong number (admitted_in self.now)
             → result ≡ number_behind number (admitted_in self.now) }
@@ -109,7 +110,7 @@ impl Deques {
 
     /// Returns the hash of a number.
     #[inline(always)]
-    pub fn hash(&self, number: u32) -> u64
+    pub fn hash(&self, number: RowId) -> u64
         requires { number < places_in self.now }
         ensures { result ≡ hash_in self.now number }
     {
@@ -118,7 +119,7 @@ impl Deques {
 
     /// Returns the next number with the same hash, if there is one.
     #[inline(always)]
-    pub fn next_in_chain(&self, number: u32) -> Option<usize>
+    pub fn next_in_chain(&self, number: RowId) -> Option<RowId>
         requires { number < places_in self.now }
         ensures { result ≡ same_in self.now number }
     {
@@ -127,7 +128,7 @@ impl Deques {
 
     /// Returns the link to the next number with the same hash. It is below 2 if there is none.
     #[inline(always)]
-    pub fn chain_link(&self, number: u32) -> u32
+    pub fn chain_link(&self, number: RowId) -> RowId
         requires { number < places_in self.now }
         ensures { row_of result ≡ same_in self.now number }
     {
@@ -149,7 +150,7 @@ impl Deques {
         ensures hash { (k : ℕ) → hash_in self.new k ≡ hash_in self.old k }
         ensures places { places_in self.old ≤ places_in self.new }
     {
-        if places > u32::MAX as usize {
+        if places > RowId::MAX as usize {
             return Err(AllocError);
         }
         grow(&mut self.nodes, places)
@@ -157,7 +158,7 @@ impl Deques {
 
     /// Sets the hash of a number, and the next number with that hash.
     #[inline(always)]
-    pub fn set_same(&mut self, number: u32, hash: u64, same: u32)
+    pub fn set_same(&mut self, number: RowId, hash: u64, same: RowId)
         requires { number < places_in self.old }
         ensures preserves { PreservesDeques self.old self.new }
         ensures changed { same_in self.new number ≡ row_of same }
@@ -170,7 +171,7 @@ impl Deques {
 
     /// Returns whether a number that is in an order is resident.
     #[inline(always)]
-    pub fn is_admitted(&self, number: u32) -> bool
+    pub fn is_admitted(&self, number: RowId) -> bool
         requires { Stands self.now number }
         ensures admitted { IsAmong number (admitted_in self.now) → result ≡ true }
         ensures waiting { IsAmong number (waiting_in self.now) → result ≡ false }
@@ -181,7 +182,7 @@ impl Deques {
     /// Returns the number that links to this one in the chain from `first`. This one is not
     /// `first`. Visits the chain up to it.
     #[inline(always)]
-    pub fn predecessor(&self, first: u32, number: u32) -> u32
+    pub fn predecessor(&self, first: RowId, number: RowId) -> RowId
         requires linked { EndsFrom self.now first }
         requires places { (k : ℕ) → IsAmong k (chain_from self.now (Some first))
             → k < places_in self.now }
@@ -200,7 +201,7 @@ impl Deques {
 
     /// Removes a number from its order, and returns whether it was resident.
     #[inline(always)]
-    pub fn unlink(&mut self, number: u32) -> bool
+    pub fn unlink(&mut self, number: RowId) -> bool
         requires { Stands self.old number }
         ensures was_admitted { IsAmong number (admitted_in self.old) → result ≡ true }
         ensures was_waiting { IsAmong number (waiting_in self.old) → result ≡ false }
@@ -220,7 +221,7 @@ impl Deques {
 
     /// Moves a resident number after all other resident ones.
     #[inline(always)]
-    pub fn move_last(&mut self, number: u32)
+    pub fn move_last(&mut self, number: RowId)
         requires { IsAmong number (admitted_in self.old) }
         ensures admitted { admitted_in self.new
             ≡ without number (admitted_in self.old) ++ number ∷ [] }
@@ -232,7 +233,7 @@ impl Deques {
 
     /// Appends a number that is in no order to a queue.
     #[inline(always)]
-    pub fn push_back(&mut self, number: u32, queue: Queue)
+    pub fn push_back(&mut self, number: RowId, queue: Queue)
         requires above { 2 ≤ number }
         requires within { number < places_in self.old }
         requires absent { IsUnlinked self.old number }

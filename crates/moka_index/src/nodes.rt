@@ -3,6 +3,7 @@ ghost use Rattle.std.specs.Prelude.{◌≡◌, ◌≢◌, ℕ, ◌<◌, ◌≤�
 ghost use Rattle.moka_index.specs.Nodes.{node_at, next_of, row_of, Grows, SetsNext, SetsPrev};
 ghost use Rattle.moka_index.specs.Nodes.{SetsOrder, SetsSame, IsMutual, Unlinks, LinksBefore, Relinks};
 
+use moka_rows::rows::RowId;
 use std::alloc::AllocError;
 
 /// The neighbours of a number in its order, the next number with the same hash, and its hash.
@@ -15,18 +16,18 @@ pub struct Node {
     /// The hash of the number's row.
     pub hash: u64,
     /// The number before it in its order, or the order's end.
-    pub prev: u32,
+    pub prev: RowId,
     /// The number after it in its order, or the order's end.
-    pub next: u32,
+    pub next: RowId,
     /// The next number with the same hash, or an end if there is none.
-    pub same: u32,
+    pub same: RowId,
     /// Whether the number is in the order of the resident rows.
     pub is_admitted: bool,
 }
 
 /// Returns the node of a number.
 #[inline(always)]
-pub fn read(nodes: &[Node], at: u32) -> Node
+pub fn read(nodes: &[Node], at: RowId) -> Node
     requires { at < length nodes.now }
     ensures { result ≡ node_at nodes.now at }
 {
@@ -36,15 +37,15 @@ pub fn read(nodes: &[Node], at: u32) -> Node
 
 /// Returns the row that a link leads to, or `None` if it leads to an end.
 #[inline(always)]
-pub fn row(link: u32) -> Option<usize>
+pub fn row(link: RowId) -> Option<RowId>
     ensures { result ≡ row_of link }
 {
-    if link < 2 { None } else { Some(link as usize) }
+    if link < 2 { None } else { Some(link) }
 }
 
 /// Returns the first row of the order with this end, if there is one.
 #[inline(always)]
-pub fn first(nodes: &[Node], end: u32) -> Option<usize>
+pub fn first(nodes: &[Node], end: RowId) -> Option<RowId>
     requires { end < 2 }
     ensures { result ≡ row_of (next_of nodes.now end) }
 {
@@ -67,7 +68,7 @@ pub fn grow(nodes: &mut Vec<Node>, places: usize) -> Result<(), AllocError>
 {
     nodes.reserve_exact(places.saturating_sub(nodes.len()))?;
     for place in nodes.len()..places {
-        let link = place as u32;
+        let link = place as RowId;
         nodes.push(Node {
             hash: 0,
             prev: link,
@@ -81,7 +82,7 @@ pub fn grow(nodes: &mut Vec<Node>, places: usize) -> Result<(), AllocError>
 
 // Sets the number after this one.
 #[inline(always)]
-fn set_next(nodes: &mut [Node], at: u32, to: u32)
+fn set_next(nodes: &mut [Node], at: RowId, to: RowId)
     requires { at < length nodes.old }
     ensures { SetsNext nodes.old nodes.new at to }
 {
@@ -90,7 +91,7 @@ fn set_next(nodes: &mut [Node], at: u32, to: u32)
 
 // Sets the number before this one.
 #[inline(always)]
-fn set_prev(nodes: &mut [Node], at: u32, to: u32)
+fn set_prev(nodes: &mut [Node], at: RowId, to: RowId)
     requires { at < length nodes.old }
     ensures { SetsPrev nodes.old nodes.new at to }
 {
@@ -99,7 +100,7 @@ fn set_prev(nodes: &mut [Node], at: u32, to: u32)
 
 /// Sets the order of a number.
 #[inline(always)]
-pub fn set_order(nodes: &mut Vec<Node>, at: u32, is_admitted: bool)
+pub fn set_order(nodes: &mut Vec<Node>, at: RowId, is_admitted: bool)
     requires { at < length nodes.old.items }
     ensures { SetsOrder nodes.old.items nodes.new.items at is_admitted }
 {
@@ -108,7 +109,7 @@ pub fn set_order(nodes: &mut Vec<Node>, at: u32, is_admitted: bool)
 
 /// Sets the hash of a number, and the next number with that hash.
 #[inline(always)]
-pub fn set_same(nodes: &mut Vec<Node>, at: u32, hash: u64, same: u32)
+pub fn set_same(nodes: &mut Vec<Node>, at: RowId, hash: u64, same: RowId)
     requires { at < length nodes.old.items }
     ensures { SetsSame nodes.old.items nodes.new.items at hash same }
 {
@@ -118,7 +119,7 @@ pub fn set_same(nodes: &mut Vec<Node>, at: u32, hash: u64, same: u32)
 
 // Removes a number from between its neighbours.
 #[inline(always)]
-fn unlink_in(nodes: &mut [Node], at: u32)
+fn unlink_in(nodes: &mut [Node], at: RowId)
     requires within { at < length nodes.old }
     requires mutual { IsMutual nodes.old }
     ensures { Unlinks nodes.old nodes.new at }
@@ -132,7 +133,7 @@ fn unlink_in(nodes: &mut [Node], at: u32)
 
 // Inserts an isolated number before another one.
 #[inline(always)]
-fn link_in(nodes: &mut [Node], at: u32, before: u32)
+fn link_in(nodes: &mut [Node], at: RowId, before: RowId)
     requires at_within { at < length nodes.old }
     requires within { before < length nodes.old }
     requires mutual { IsMutual nodes.old }
@@ -150,7 +151,7 @@ fn link_in(nodes: &mut [Node], at: u32, before: u32)
 // Moves a number before another one. Writes six links, none of them twice unless both are
 // neighbours.
 #[inline(always)]
-fn relink_in(nodes: &mut [Node], at: u32, end: u32)
+fn relink_in(nodes: &mut [Node], at: RowId, end: RowId)
     requires at_within { at < length nodes.old }
     requires within { end < length nodes.old }
     requires mutual { IsMutual nodes.old }
@@ -169,7 +170,7 @@ fn relink_in(nodes: &mut [Node], at: u32, end: u32)
 
 /// Removes a number from between its neighbours.
 #[inline(always)]
-pub fn unlink(nodes: &mut Vec<Node>, at: u32)
+pub fn unlink(nodes: &mut Vec<Node>, at: RowId)
     requires within { at < length nodes.old.items }
     requires mutual { IsMutual nodes.old.items }
     ensures { Unlinks nodes.old.items nodes.new.items at }
@@ -179,7 +180,7 @@ pub fn unlink(nodes: &mut Vec<Node>, at: u32)
 
 /// Inserts an isolated number before another one.
 #[inline(always)]
-pub fn link_before(nodes: &mut Vec<Node>, at: u32, before: u32)
+pub fn link_before(nodes: &mut Vec<Node>, at: RowId, before: RowId)
     requires at_within { at < length nodes.old.items }
     requires within { before < length nodes.old.items }
     requires mutual { IsMutual nodes.old.items }
@@ -192,7 +193,7 @@ pub fn link_before(nodes: &mut Vec<Node>, at: u32, before: u32)
 
 /// Moves a number before another one.
 #[inline(always)]
-pub fn relink(nodes: &mut Vec<Node>, at: u32, before: u32)
+pub fn relink(nodes: &mut Vec<Node>, at: RowId, before: RowId)
     requires at_within { at < length nodes.old.items }
     requires within { before < length nodes.old.items }
     requires mutual { IsMutual nodes.old.items }

@@ -10,6 +10,7 @@ ghost use Rattle.indexmap.specs.IndexMap.{spare};
 use crate::bucket_heads::{self, BucketHeads, change_first, drop_first, find_bucket, put_first};
 use crate::deques::{Deques, Queue};
 use indexmap::IndexMap;
+use moka_rows::rows::RowId;
 use std::alloc::{AllocError, Global};
 use std::hash::BuildHasherDefault;
 
@@ -31,7 +32,7 @@ pub struct RowIndex {
 
 /// Removes a number from the chain of its hash.
 #[inline(always)]
-fn unchain(orders: &mut Deques, bucket_heads: &mut BucketHeads, number: u32)
+fn unchain(orders: &mut Deques, bucket_heads: &mut BucketHeads, number: RowId)
     requires stands { Stands orders.old number }
     requires indexed { IsIndexed orders.old bucket_heads.old }
     ensures preserves { PreservesDeques orders.old orders.new }
@@ -53,15 +54,6 @@ fn unchain(orders: &mut Deques, bucket_heads: &mut BucketHeads, number: u32)
     } else {
         change_first(bucket_heads, place, hash, first, same);
     }
-}
-
-/// Returns a number in the width of a link.
-#[inline(always)]
-fn link_of(orders: &Deques, number: usize) -> u32
-    requires { number < places_in orders.now }
-    ensures { result ≡ number }
-{
-    number as u32
 }
 
 impl RowIndex {
@@ -98,7 +90,7 @@ impl RowIndex {
 
     /// Returns the least recently used resident number, if there is one.
     #[inline(always)]
-    pub fn first_admitted(&self) -> Option<usize>
+    pub fn first_admitted(&self) -> Option<RowId>
         ensures { result ≡ first_of (admitted_of self.now) }
     {
         self.orders.first(Queue::Admitted)
@@ -106,7 +98,7 @@ impl RowIndex {
 
     /// Returns the number that has been pending longest, if there is one.
     #[inline(always)]
-    pub fn first_waiting(&self) -> Option<usize>
+    pub fn first_waiting(&self) -> Option<RowId>
         ensures { result ≡ first_of (waiting_of self.now) }
     {
         self.orders.first(Queue::Waiting)
@@ -114,38 +106,38 @@ impl RowIndex {
 
     /// Returns the next number in the order of this one, if there is one.
     #[inline(always)]
-    pub fn next(&self, number: usize) -> Option<usize>
+    pub fn next(&self, number: RowId) -> Option<RowId>
         requires { IsLinked self.now number }
         ensures admitted { IsAmong number (admitted_of self.now)
             → result ≡ number_behind number (admitted_of self.now) }
         ensures waiting { IsAmong number (waiting_of self.now)
             → result ≡ number_behind number (waiting_of self.now) }
     {
-        self.orders.next(link_of(&self.orders, number))
+        self.orders.next(number)
     }
 
     /// Returns whether a number is resident.
     #[inline(always)]
-    pub fn is_admitted(&self, number: usize) -> bool
+    pub fn is_admitted(&self, number: RowId) -> bool
         requires { IsLinked self.now number }
         ensures admitted { IsAmong number (admitted_of self.now) → result ≡ true }
         ensures waiting { IsAmong number (waiting_of self.now) → result ≡ false }
     {
-        self.orders.is_admitted(link_of(&self.orders, number))
+        self.orders.is_admitted(number)
     }
 
     /// Returns the hash of a number.
     #[inline(always)]
-    pub fn hash(&self, number: usize) -> u64
+    pub fn hash(&self, number: RowId) -> u64
         requires { IsLinked self.now number }
         ensures { result ≡ hash_at self.now number }
     {
-        self.orders.hash(link_of(&self.orders, number))
+        self.orders.hash(number)
     }
 
     /// Returns the first number of a hash, if it has one.
     #[inline(always)]
-    pub fn first(&self, hash: u64) -> Option<usize>
+    pub fn first(&self, hash: u64) -> Option<RowId>
         ensures { result ≡ first_at self.now hash }
     {
         bucket_heads::first(&self.bucket_heads, hash)
@@ -153,11 +145,11 @@ impl RowIndex {
 
     /// Returns the next number with the same hash, if there is one.
     #[inline(always)]
-    pub fn next_in_chain(&self, number: usize) -> Option<usize>
+    pub fn next_in_chain(&self, number: RowId) -> Option<RowId>
         requires { IsLinked self.now number }
         ensures { result ≡ same_at self.now number }
     {
-        self.orders.next_in_chain(link_of(&self.orders, number))
+        self.orders.next_in_chain(number)
     }
 
     /// Makes places for all numbers below `places`, and room for the hashes of `more` more numbers.
@@ -180,7 +172,7 @@ impl RowIndex {
     /// Appends a new number to the pending ones, and puts it before all others with its hash. Does
     /// not allocate, and uses the room of at most one hash.
     #[inline(always)]
-    pub fn add(&mut self, number: usize, hash: u64)
+    pub fn add(&mut self, number: RowId, hash: u64)
         requires above { 2 ≤ number }
         requires within { number < places_of self.old }
         requires room { 0 < spare_of self.old }
@@ -192,7 +184,6 @@ impl RowIndex {
         ensures places { places_of self.new ≡ places_of self.old }
         ensures spare { spare_of self.old ≤ spare_of self.new + 1 }
     {
-        let number = link_of(&self.orders, number);
         let same = put_first(&mut self.bucket_heads, hash, number);
         self.orders.set_same(number, hash, same);
         self.orders.push_back(number, Queue::Waiting);
@@ -200,16 +191,15 @@ impl RowIndex {
 
     /// Appends a number to the resident ones, after removing it from its order.
     #[inline(always)]
-    pub fn admit(&mut self, number: usize)
+    pub fn admit(&mut self, number: RowId)
         requires { IsLinked self.old number }
         ensures admitted { admitted_of self.new
             ≡ without number (admitted_of self.old) ++ number ∷ [] }
         ensures waiting { waiting_of self.new ≡ without number (waiting_of self.old) }
         ensures preserves { PreservesRoom self.old self.new }
     {
-        let used = link_of(&self.orders, number);
-        self.orders.unlink(used);
-        self.orders.push_back(used, Queue::Admitted);
+        self.orders.unlink(number);
+        self.orders.push_back(number, Queue::Admitted);
     }
 
     /// Moves a resident number after all other resident ones; a pending one keeps its place.
@@ -217,7 +207,7 @@ impl RowIndex {
     ///
     /// No link changes if the number is the last already.
     #[inline(always)]
-    pub fn touch(&mut self, number: usize) -> bool
+    pub fn touch(&mut self, number: RowId) -> bool
         requires { IsLinked self.old number }
         ensures admitted { IsAmong number (admitted_of self.old) → (result ≡ true)
             × (admitted_of self.new ≡ without number (admitted_of self.old) ++ number ∷ []) }
@@ -235,21 +225,20 @@ impl RowIndex {
 
     // Moves a resident number after all other resident ones.
     #[inline(always)]
-    fn move_last(&mut self, number: usize)
+    fn move_last(&mut self, number: RowId)
         requires { IsAmong number (admitted_of self.old) }
         ensures admitted { admitted_of self.new
             ≡ without number (admitted_of self.old) ++ number ∷ [] }
         ensures waiting { waiting_of self.new ≡ without number (waiting_of self.old) }
         ensures preserves { PreservesRoom self.old self.new }
     {
-        let used = link_of(&self.orders, number);
-        self.orders.move_last(used);
+        self.orders.move_last(number);
     }
 
     /// Removes a number from its order and from the chain of its hash. Returns whether it was
     /// resident.
     #[inline(always)]
-    pub fn remove(&mut self, number: usize) -> bool
+    pub fn remove(&mut self, number: RowId) -> bool
         requires { IsLinked self.old number }
         ensures was_admitted { IsAmong number (admitted_of self.old) → result ≡ true }
         ensures was_waiting { IsAmong number (waiting_of self.old) → result ≡ false }
@@ -257,8 +246,8 @@ impl RowIndex {
         ensures waiting { waiting_of self.new ≡ without number (waiting_of self.old) }
         ensures preserves { PreservesRoom self.old self.new }
     {
-        let number = link_of(&self.orders, number);
         unchain(&mut self.orders, &mut self.bucket_heads, number);
-        self.orders.unlink(number)
+        let was_admitted = self.orders.unlink(number);
+        was_admitted
     }
 }

@@ -15,18 +15,18 @@ pub stores-something : (capacity : Option ℕ) → (stores_nothing capacity ≡ 
 stores-something None = (λ _ is. cc, λ _. refl)
 stores-something (Some capacity) = (λ stores is. cc, λ other. grind arith)
 
-module _ {K V E : Type 0} (eq : K → K → Bool) (is_infallible : V → Type 0) (settings : Settings K V) (steps : List (AcceptedStep K V E)) where
+module _ {K V E : Type 0} (eq : K → K → Bool) (is_clone : V → V → Type 0) (is_infallible : V → Type 0) (settings : Settings K V) (steps : List (AcceptedStep K V E)) where
   -- the copy of what a lookup returns can fail just where that of what it finds can
-  looked : (found : Option (Write K V)) → IsSomeAnd found (λ w. ¬ (is_infallible w.value)) ↔ ReplyMayFail {K = K} {E = E} is_infallible (Found (option_map (λ w. w.value) found))
+  looked : (found : Option (Write K V)) → IsSomeAnd found (λ w. ¬ (is_infallible w.value)) ↔ ReplyMayFail {K = K} {E = E} is_clone is_infallible (Found (option_map (λ w. w.value) found))
   looked None = (λ may. may, λ may. may)
   looked (Some w) = (λ may. may, λ may. may)
 
   -- what just moves a turn copies nothing
-  moved-copies : (move : Turn K V E → Move K V E) (t : Option (Turn K V E)) → ¬ (IfReplied (ReplyMayFail is_infallible) (option_map (λ u. with_move Done [] (move u)) t))
+  moved-copies : (move : Turn K V E → Move K V E) (t : Option (Turn K V E)) → ¬ (IfReplied (ReplyMayFail is_clone is_infallible) (option_map (λ u. with_move Done [] (move u)) t))
   moved-copies move None may = may
   moved-copies move (Some t) may = may
 
-  pub takes_memory : (call : Call K V E) → ¬ (IsWrite call) → MayTakeMemory eq is_infallible settings steps call ↔ IfReplied (ReplyMayFail is_infallible) (accepted eq settings steps call)
+  pub takes_memory : (call : Call K V E) → ¬ (IsWrite call) → MayTakeMemory eq is_clone is_infallible settings steps call ↔ IfReplied (ReplyMayFail is_clone is_infallible) (accepted eq settings steps call)
   takes_memory (Get k at) other = looked (live_at eq settings k at (events_in steps))
   takes_memory (ContainsKey k at) other = (λ may. may, λ may. may)
   takes_memory (Insert k v at) other = absurd (other tt)
@@ -34,7 +34,7 @@ module _ {K V E : Type 0} (eq : K → K → Bool) (is_infallible : V → Type 0)
   takes_memory (Remove k at) other = looked (live_at eq settings k at (events_in steps))
   takes_memory InvalidateAll other = (λ may. may, λ may. may)
   takes_memory (InvalidateIf test) other =
-      (λ may. absurd may, cond_both settings.supports_closures (Some (without_move {E = E} Done (Hidden test ∷ []))) None (λ a. ¬ (IfReplied (ReplyMayFail is_infallible) a)) (λ _ may. may) (λ _ may. may))
+      (λ may. absurd may, cond_both settings.supports_closures (Some (without_move {E = E} Done (Hidden test ∷ []))) None (λ a. ¬ (IfReplied (ReplyMayFail is_clone is_infallible) a)) (λ _ may. may) (λ _ may. may))
   takes_memory (RunPendingTasks at) other = (λ may. may, λ may. may)
   takes_memory (RunPendingTasksUpTo limit at) other = (λ may. may, λ may. may)
   takes_memory EntryCount other = (λ may. may, λ may. may)

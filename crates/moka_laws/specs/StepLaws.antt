@@ -47,15 +47,17 @@ module _ {K V E : Type 0} (eq : K → K → Bool) (settings : Settings K V) (ste
   abbrev pub WritesAloneRunOut : Type 0
   WritesAloneRunOut = (call : Call K V E) → IsOutOfNumbers eq settings steps call → IsWrite call
 
-module _ {K V E : Type 0} (eq : K → K → Bool) (is_infallible : V → Type 0) (settings : Settings K V)
+module _ {K V E : Type 0} (eq : K → K → Bool) (is_clone : V → V → Type 0) (is_infallible : V → Type 0) (settings : Settings K V)
     (steps : List (AcceptedStep K V E)) where
   -- An insert may run out of memory exactly if the capacity is not 0.
   abbrev pub InsertTakesMemory : Type 0
   InsertTakesMemory =
-      (k : K) (v : V) (at : ℕ) → MayTakeMemory eq is_infallible settings steps (Insert k v at) ↔ (settings.max_capacity ≢ Some 0)
+      (k : K) (v : V) (at : ℕ)
+      → MayTakeMemory eq is_clone is_infallible settings steps (Insert k v at) ↔ (settings.max_capacity ≢ Some 0)
 
   -- A call that neither writes nor begins may exactly if its result needs a clone that can fail.
   abbrev pub OthersTakeMemory : Type 0
   OthersTakeMemory =
       (call : Call K V E) → ¬ (IsWrite call)
-      → MayTakeMemory eq is_infallible settings steps call ↔ IfReplied (ReplyMayFail is_infallible) (accepted eq settings steps call)
+      → MayTakeMemory eq is_clone is_infallible settings steps call
+      ↔ IfReplied (ReplyMayFail is_clone is_infallible) (accepted eq settings steps call)

@@ -77,9 +77,10 @@ pub fn writes_alone_run_out_of_numbers<K: Eq, V, E>()
 ///
 /// - An insert may exactly if the capacity is not 0.
 /// - A `get` or a `remove` may exactly if it returns a value whose clone can fail.
-/// - A collect may exactly if it returns a value or an error.
+/// - A collect may exactly if it returns an error, or a value of which some clone can fail to be
+///   cloned.
 /// - No other call that neither writes nor begins may.
 pub fn writes_and_copies_alone_take_memory<K: Eq, V: Clone, E>()
-    ensures write { AfterSteps K V E (InsertTakesMemory K.eq V.is_infallible) }
-    ensures others { AfterSteps K V E (OthersTakeMemory K.eq V.is_infallible) }
+    ensures write { AfterSteps K V E (InsertTakesMemory K.eq V.is_clone V.is_infallible) }
+    ensures others { AfterSteps K V E (OthersTakeMemory K.eq V.is_clone V.is_infallible) }
 {}

@@ -3,15 +3,15 @@ ghost use Rattle.std.specs.Prelude.{◌≡◌};
 ghost use Rattle.moka_model.specs.declared.turns.Kind.{Kind};
 
 use crate::goes_on::{later, steps_alike};
-use crate::handles::consume;
+use crate::handles::{consume, consume_collected};
 use crate::player::{At, Player};
-use crate::returned::{Returned, answer_of, finished_of, returned_of_outcome};
-use crate::subject::{Collects, Given, Subject};
+use crate::returned::{Returned, finished_of, returned_of_outcome};
+use crate::subject::{Given, Subject};
 use crate::types::{SMALL, Text, Types, create_text, share};
 use moka_model::turns::{Kind, Outcome};
 use moka_policy::policy::Refused;
 use moka_segmented::segment::SegmentedState;
-use moka_state::answers::{Begun, Collected, FinishRefused};
+use moka_state::answers::{Begun, FinishRefused};
 use moka_state::handles::{CollectRefused, Ticket, Turn};
 use moka_state::list_rows::ListRows;
 use moka_state::state::{CacheState, State};
@@ -146,23 +146,6 @@ fn finish_or_retry<S: Subject + Drop>(
     }
 }
 
-/// Returns what a collect returned. A ticket that comes back is left.
-fn collected_of<S: Subject + Drop>(player: &mut Player<S>, collected: Collects) -> Returned {
-    match collected {
-        Ok(Collected::Ready(answer)) => answer_of(answer),
-        Ok(Collected::NotYet(ticket)) => {
-            let _ = player.cache.leave(ticket);
-            Returned::NotYet
-        }
-        Ok(Collected::Abandoned) => Returned::Abandoned,
-        Ok(Collected::Ended) => Returned::Ended,
-        Err(CollectRefused { ticket, cause }) => {
-            let _ = player.cache.leave(ticket);
-            Returned::Refused(cause)
-        }
-    }
-}
-
 /// Collects a ticket. If that fails, checks that the ticket is handed back and that both caches go
 /// on alike, and collects it again.
 fn collect_or_go_on<S: Subject + Drop>(
@@ -180,7 +163,7 @@ fn collect_or_go_on<S: Subject + Drop>(
         }
         collected => collected,
     };
-    collected_of(one, collected)
+    consume_collected(&mut one.cache, collected)
 }
 
 /// Collects a ticket. If that fails, collects it again.
@@ -194,7 +177,7 @@ fn collect_or_retry<S: Subject + Drop>(player: &mut Player<S>, ticket: Ticket<u6
         ) => player.cache.collect(ticket),
         collected => collected,
     };
-    collected_of(player, collected)
+    consume_collected(&mut player.cache, collected)
 }
 
 /// Ends a turn and a ticket of it on a cache and on its twin, and checks that they reply alike.

@@ -4,14 +4,14 @@ ghost use Rattle.moka_model.specs.declared.turns.Kind.{Kind};
 ghost use Rattle.moka_state.specs.Finish.{Fits, outcome_of};
 
 use crate::calls::Handled;
-use crate::returned::{Returned, finished_of, parts, returned_of_outcome};
+use crate::returned::{Returned, answer_of, finished_of, parts, returned_of_outcome};
 use crate::steps::Ending;
-use crate::subject::{Asked, Begins, BeginsCompute, Given, Subject};
+use crate::subject::{Asked, Begins, BeginsCompute, Collects, Given, Subject};
 use crate::types::{Text, create_text, share};
 use moka_model::entry::Entry;
 use moka_model::turns::{Kind, Op, Outcome};
-use moka_state::answers::{Begun, BegunCompute, FinishRefused};
-use moka_state::handles::Turn;
+use moka_state::answers::{Begun, BegunCompute, Collected, FinishRefused};
+use moka_state::handles::{CollectRefused, Turn};
 use std::alloc::{AllocError, Global};
 use std::sync::Arc;
 
@@ -82,6 +82,23 @@ fn consume_compute<S: Subject>(cache: &mut S, begun: BeginsCompute) -> Returned 
     }
 }
 
+/// Consumes what a collect returned, and returns what it was. A ticket that comes back is left.
+pub(crate) fn consume_collected<S: Subject>(cache: &mut S, collected: Collects) -> Returned {
+    match collected {
+        Ok(Collected::Ready(answer)) => answer_of(answer),
+        Ok(Collected::NotYet(ticket)) => {
+            let _ = cache.leave(ticket);
+            Returned::NotYet
+        }
+        Ok(Collected::Abandoned) => Returned::Abandoned,
+        Ok(Collected::Ended) => Returned::Ended,
+        Err(CollectRefused { ticket, cause }) => {
+            let _ = cache.leave(ticket);
+            Returned::Refused(cause)
+        }
+    }
+}
+
 /// Begins a turn and finishes it.
 fn finish_by<S: Subject>(
     alloc: Global,
@@ -146,7 +163,12 @@ fn compute<S: Subject>(
 }
 
 /// Finishes a turn. If that fails, checks that turn and outcome came back, and abandons the turn.
-fn finish<S: Subject>(cache: &mut S, turn: Turn<u64>, outcome: Given, now: u64) -> Returned
+pub(crate) fn finish<S: Subject>(
+    cache: &mut S,
+    turn: Turn<u64>,
+    outcome: Given,
+    now: u64,
+) -> Returned
     requires { Fits ℕ turn.key.kind (outcome_of outcome) }
 {
     let given = (

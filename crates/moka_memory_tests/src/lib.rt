@@ -16,6 +16,8 @@ mod handed_back;
 #[cfg(test)]
 mod handles;
 #[cfg(test)]
+mod hits;
+#[cfg(test)]
 mod lists;
 #[cfg(test)]
 mod on_segments;

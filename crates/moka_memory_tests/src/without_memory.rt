@@ -1,6 +1,8 @@
 //! The calls that do not allocate. Each test allocates just before and just after them. So it fails
 //! at some N for lack of the first of these allocations, and at N + 1 for lack of the second:
 //! `scripts/refused_memory` tries each.
+ghost use Rattle.std.specs.Prelude.{◌≡◌, ◌≢◌};
+ghost use Rattle.moka_model.specs.declared.turns.Kind.{Kind};
 
 use crate::player::{SECOND, open_anew};
 use crate::returned::{Returned, done_of, insert_of, notice_of, option_of};
@@ -20,18 +22,26 @@ use std::sync::Arc;
 use std::test::Fail;
 
 /// Checks that an allocation succeeds.
-fn takes_memory(rt: &impl Abort, alloc: Global, otherwise: &str) {
+pub(crate) fn takes_memory(rt: &impl Abort, alloc: Global, otherwise: &str) {
     assert!(rt; Arc::new(alloc, 0_u64).is_ok(), "{otherwise}");
 }
 
-fn is(rt: &impl Abort, returned: Returned, wanted: Returned) {
+pub(crate) fn is(rt: &impl Abort, returned: Returned, wanted: Returned) {
     assert_eq!(rt; returned, wanted);
 }
 
 /// Returns the turn of a begin that runs. Retries once if an allocation fails.
-fn open_turn<S: Subject>(rt: &impl Abort, cache: &mut S, key: &Arc<u64>) -> Turn<u64> {
-    let begun = match cache.begin(key, Kind::With, false, 0) {
-        Err(Refused::OutOfMemory) => cache.begin(key, Kind::With, false, 0),
+pub(crate) fn open_turn<S: Subject>(
+    rt: &impl Abort,
+    cache: &mut S,
+    key: &Arc<u64>,
+    kind: Kind,
+) -> Turn<u64>
+    requires { kind ≢ Kind.Compute }
+    ensures { result.key.kind ≡ kind }
+{
+    let begun = match cache.begin(key, kind, false, 0) {
+        Err(Refused::OutOfMemory) => cache.begin(key, kind, false, 0),
         begun => begun,
     };
     match begun {
@@ -45,9 +55,16 @@ fn open_turn<S: Subject>(rt: &impl Abort, cache: &mut S, key: &Arc<u64>) -> Turn
 }
 
 /// Returns the ticket of a begin that waits. Retries once if an allocation fails.
-fn take_ticket<S: Subject>(rt: &impl Abort, cache: &mut S, key: &Arc<u64>) -> Ticket<u64> {
-    let begun = match cache.begin(key, Kind::With, false, 0) {
-        Err(Refused::OutOfMemory) => cache.begin(key, Kind::With, false, 0),
+pub(crate) fn take_ticket<S: Subject>(
+    rt: &impl Abort,
+    cache: &mut S,
+    key: &Arc<u64>,
+    kind: Kind,
+) -> Ticket<u64>
+    requires { kind ≢ Kind.Compute }
+{
+    let begun = match cache.begin(key, kind, false, 0) {
+        Err(Refused::OutOfMemory) => cache.begin(key, kind, false, 0),
         begun => begun,
     };
     match begun {
@@ -146,7 +163,8 @@ fn make_all<S: Subject>(
     insert(alloc, cache, 1, "a")?;
     insert(alloc, cache, 2, "b")?;
     insert(alloc, cache, 3, "c")?;
-    let (turn, ticket) = (open_turn(rt, cache, key), take_ticket(rt, cache, key));
+    let turn = open_turn(rt, cache, key, Kind::With);
+    let ticket = take_ticket(rt, cache, key, Kind::With);
     takes_memory(rt, alloc, "refused before the calls");
     end(rt, cache, turn, ticket);
     look(rt, cache);

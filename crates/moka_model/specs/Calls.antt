@@ -326,13 +326,18 @@ module _ {K V E : Type 0} (eq : K → K → Bool) (settings : Settings K V) wher
   abbrev pub IsOutOfNumbers : List (AcceptedStep K V E) → Call K V E → Type 0
   IsOutOfNumbers steps call = WantsNumber (next_number settings (events_in steps)) (turns steps) (accepted eq settings steps call)
 
--- The type of the values says of which values clones never fail (`is_infallible`).
+-- The type of the values says of which values cloning never fails (`is_infallible`).
+-- Cloning a clone of this value never fails.
+abbrev pub ClonesAreInfallible : {V : Type 0} → (V → V → Type 0) → (V → Type 0) → V → Type 0
+ClonesAreInfallible {V} is_clone is_infallible v = (w : V) → is_clone v w → is_infallible w
+
 -- Returning this result needs a clone that can fail.
-abbrev pub ReplyMayFail : {K V E : Type 0} → (V → Type 0) → Reply K V E → Type 0
-ReplyMayFail is_infallible (Found (Some v)) = ¬ (is_infallible v)
-ReplyMayFail is_infallible (Entered e) = ⊤  -- the turn keeps a clone, which is cloned again
-ReplyMayFail is_infallible (GaveError e) = ⊤
-ReplyMayFail is_infallible reply = ⊥
+abbrev pub ReplyMayFail : {K V E : Type 0} → (V → V → Type 0) → (V → Type 0) → Reply K V E → Type 0
+ReplyMayFail is_clone is_infallible (Found (Some v)) = ¬ (is_infallible v)
+-- the turn keeps a clone, which is cloned again
+ReplyMayFail is_clone is_infallible (Entered e) = ¬ (ClonesAreInfallible is_clone is_infallible e.value)
+ReplyMayFail is_clone is_infallible (GaveError e) = ⊤
+ReplyMayFail is_clone is_infallible reply = ⊥
 
 module _ {K V E : Type 0} (eq : K → K → Bool) (is_infallible : V → Type 0) (settings : Settings K V)
     (steps : List (AcceptedStep K V E)) where
@@ -348,6 +353,8 @@ module _ {K V E : Type 0} (eq : K → K → Bool) (is_infallible : V → Type 0)
   FinishMayFail name at (outcomes.Op ops.Remove) = CopyMayFail name.key at
   FinishMayFail name at outcome = ⊤
 
+module _ {K V E : Type 0} (eq : K → K → Bool) (is_clone : V → V → Type 0) (is_infallible : V → Type 0) (settings : Settings K V)
+    (steps : List (AcceptedStep K V E)) where
   -- When a call may fail with `OutOfMemory`. No other call may.
   --
   -- - A lookup or a removal, if cloning what it finds can fail.
@@ -356,14 +363,15 @@ module _ {K V E : Type 0} (eq : K → K → Bool) (is_infallible : V → Type 0)
   -- - A finish as `FinishMayFail` says.
   -- - A collect, if cloning its result can fail.
   abbrev pub MayTakeMemory : Call K V E → Type 0
-  MayTakeMemory (Get k at) = CopyMayFail k at
+  MayTakeMemory (Get k at) = CopyMayFail eq is_infallible settings steps k at
   MayTakeMemory (Insert k v at) = stores_nothing settings.max_capacity ≡ false
-  MayTakeMemory (Remove k at) = CopyMayFail k at
+  MayTakeMemory (Remove k at) = CopyMayFail eq is_infallible settings steps k at
   MayTakeMemory (OrInsert k v at) = ⊤
   MayTakeMemory (Begin k kind replace at) = ⊤
   MayTakeMemory (BeginCompute k keep at) = ⊤
-  MayTakeMemory (Finish name outcome at) = IsSome (accepted eq settings steps (Finish name outcome at)) × FinishMayFail name at outcome
-  MayTakeMemory (Collect name) = IfReplied (ReplyMayFail is_infallible) (accepted eq settings steps (Collect name))
+  MayTakeMemory (Finish name outcome at) =
+      IsSome (accepted eq settings steps (Finish name outcome at)) × FinishMayFail eq is_infallible settings steps name at outcome
+  MayTakeMemory (Collect name) = IfReplied (ReplyMayFail is_clone is_infallible) (accepted eq settings steps (Collect name))
   MayTakeMemory call = ⊥
 
 module _ {V : Type 0} (is_clone : V → V → Type 0) where

@@ -3,4 +3,5 @@
 
 pub mod predicate_error;
 pub mod predicate_id;
+#[doc(hidden)]
 pub mod worked_ids;

@@ -178,6 +178,30 @@ pub type Listening<L, T = ManualClock> = ReadyTypes<
     L,
 >;
 
+/// A cache with a weigher, which calls an `L` for removed entries if it is shared, for keys that no
+/// attacker picks.
+pub type WeighedListening<W, L, T = ManualClock> = ReadyTypes<
+    FoldState,
+    W,
+    NoExpiry,
+    T,
+    NoPredicate,
+    Infallible,
+    L,
+>;
+
+/// A cache with an expiry, which calls an `L` for removed entries if it is shared, for keys that no
+/// attacker picks.
+pub type ExpiringListening<E, L, T = ManualClock> = ReadyTypes<
+    FoldState,
+    NoWeigher,
+    E,
+    T,
+    NoPredicate,
+    Infallible,
+    L,
+>;
+
 /// A value invariant: a relation between the keys and the values of a cache. Writers have to prove
 /// it, readers get it.
 ///

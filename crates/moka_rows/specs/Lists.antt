@@ -1,6 +1,6 @@
 -- The row store of two lists: its rows, and its room.
 use Rattle.std.specs.Prelude.{ℕ, ◌+◌, ◌-◌, min, List, ◌++◌, vec_len, vec_capacity}
-use Rattle.std.below.core.specs.declared.int.usize.TheConstants.{MAX}
+use Rattle.std.below.core.specs.declared.int.u32.TheConstants.{MAX}
 use Rattle.moka_rows.specs.declared.rows.Row.{Row}
 use Rattle.moka_rows.specs.declared.list_rows.ListRows.{ListRows}
 

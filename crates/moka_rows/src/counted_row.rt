@@ -1,15 +1,15 @@
-//! Rows as a store keeps them. A lookup reaches a row only by a call that counts it.
-ghost use Rattle.std.specs.Prelude.{◌≡◌, ◌+◌, ◌-◌, ◌<◌, ◌^◌};
+//! Rows as a store keeps them, and as a lookup in lists is lent them.
+ghost use Rattle.std.specs.Prelude.{◌≡◌, ◌∷◌, ◌+◌, ◌-◌, ◌<◌, ◌^◌, drop, length};
 ghost use Rattle.moka_rows.specs.Rows.{touched, overwritten, hidden};
 
-use crate::rows::{Access, EntryInfo, Row};
+use crate::rows::{Access, EntryInfo, Row, RowId};
 use std::marker::Model;
 
 /// A row in a store.
 ///
-/// A contract sees the row itself. The field is private, so that a lookup reaches a row, its key or
-/// its hash only by `read_counted`, which counts it. The other calls are for a row whose number is
-/// known already.
+/// A contract sees the row itself. `read_counted` is for a lookup, and counts the row. The other
+/// calls are for a row whose number is known already. A lookup is lent no `CountedRow`, so it cannot
+/// use them.
 #[derive(Drop)]
 pub struct CountedRow<R> {
     row: R,
@@ -84,5 +84,44 @@ impl<K, V> CountedRow<Row<K, V>> {
         ensures { self.new ≡ hidden self.old }
     {
         self.row.hide();
+    }
+}
+
+/// A list of rows with their numbers as a lookup is lent it.
+///
+/// A row is reached by `read_counted` alone, which counts it.
+#[derive(Drop)]
+pub(crate) struct CountedList<'a, R> {
+    rows: &'a [(RowId, CountedRow<R>)],
+}
+
+impl<'a, R> CountedList<'a, R> {
+    /// Wraps a list for a lookup.
+    #[inline(always)]
+    pub fn new(rows: &'a [(RowId, CountedRow<R>)]) -> Self
+        ensures { result.rows.now ≡ rows.entry.now }
+    {
+        CountedList { rows }
+    }
+
+    /// Returns how many rows there are.
+    #[inline(always)]
+    pub fn len(&self) -> usize
+        ensures { result ≡ length self.now.rows.now }
+    {
+        self.rows.len()
+    }
+
+    /// Returns the row at an index with its number, and adds 1 to `reads`.
+    #[inline(always)]
+    pub fn read_counted(&self, place: usize, reads: &mut u64) -> (RowId, &R)
+        requires within { place < length self.now.rows.now }
+        requires fits { reads.old < 2 ^ 64 - 1 }
+        ensures row { drop place self.now.rows.now
+            ≡ (result.0, result.1.now) ∷ drop (place + 1) self.now.rows.now }
+        ensures counted { reads.new ≡ reads.old + 1 }
+    {
+        let (number, row) = &self.rows[place];
+        (*number, row.read_counted(reads))
     }
 }

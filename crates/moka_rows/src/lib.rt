@@ -3,6 +3,7 @@
 
 pub mod counted_row;
 pub mod list_rows;
+mod lookup;
 pub mod packed;
 pub mod rows;
 pub mod visits;

@@ -5,8 +5,9 @@ ghost use Rattle.std.specs.Prelude.{IsSome, IfNone, OnSome, MatchOption};
 ghost use Rattle.moka_rows.specs.Rows.{row_under, is_row_of, first_number, expired_at};
 ghost use Rattle.moka_rows.specs.Numbers.{number_where, IsNumbered, IsPlaceOf, IsPlaceIn};
 
-use crate::counted_row::CountedRow;
-use crate::rows::{Access, EntryInfo, Order, Previous, Row, RowStore};
+use crate::counted_row::{CountedList, CountedRow};
+use crate::lookup::find_row;
+use crate::rows::{Access, EntryInfo, Order, Previous, Row, RowId, RowStore};
 use crate::visits::step;
 use std::alloc::{AllocError, Global};
 
@@ -26,38 +27,15 @@ enum Place {
 /// constant time.
 #[derive(Drop)]
 pub struct ListRows<K, V> {
-    waiting: Vec<(usize, CountedRow<Row<K, V>>)>,
-    admitted: Vec<(usize, CountedRow<Row<K, V>>)>,
-    next: usize,
+    waiting: Vec<(RowId, CountedRow<Row<K, V>>)>,
+    admitted: Vec<(RowId, CountedRow<Row<K, V>>)>,
+    next: RowId,
     ghost numbered: { IsNumbered next (admitted.items ++ waiting.items) },
     ghost can_admit: { vec_len admitted + vec_len waiting ≤ vec_capacity admitted },
 }
 
-/// Returns the number of the first of these rows with the key. Adds 1 to `reads` for each row it
-/// reads.
-fn number_of<K: Eq, V>(
-    rows: &[(usize, CountedRow<Row<K, V>>)],
-    key: &K,
-    hash: u64,
-    reads: &mut u64,
-) -> Option<usize>
-    requires { reads.old + length rows.now < 2 ^ 64 }
-    ensures number { result ≡ number_where (is_row_of K.eq key.now hash) rows.now }
-    ensures at_most { reads.new ≤ reads.old + length rows.now }
-    ensures at_least { OnSome result (reads.old < reads.new) }
-    ensures all { IfNone result (reads.new ≡ reads.old + length rows.now) }
-{
-    for (number, counted_row) in rows {
-        let row = counted_row.read_counted(reads);
-        if row.hash == hash && *row.key == *key {
-            return Some(*number);
-        }
-    }
-    None
-}
-
 /// Returns the index of the first row with this number.
-fn place_of<K, V>(rows: &[(usize, CountedRow<Row<K, V>>)], number: usize) -> Option<usize>
+fn place_of<K, V>(rows: &[(RowId, CountedRow<Row<K, V>>)], number: RowId) -> Option<usize>
     ensures { MatchOption result
         (row_under number rows.now ≡ None) (λ place. IsPlaceOf number rows.now place) }
 {
@@ -70,7 +48,7 @@ fn place_of<K, V>(rows: &[(usize, CountedRow<Row<K, V>>)], number: usize) -> Opt
 }
 
 /// Returns the number of the first of these rows whose deadline has come at `now`.
-fn find_expired<K, V>(rows: &[(usize, CountedRow<Row<K, V>>)], now: u64) -> Option<usize>
+fn find_expired<K, V>(rows: &[(RowId, CountedRow<Row<K, V>>)], now: u64) -> Option<RowId>
     ensures { result ≡ first_number (expired_at now rows.now) }
 {
     for (number, counted_row) in rows {
@@ -82,7 +60,7 @@ fn find_expired<K, V>(rows: &[(usize, CountedRow<Row<K, V>>)], now: u64) -> Opti
 }
 
 /// Returns the number of the row at an index, or `None` past the end.
-fn number_at<K, V>(rows: &[(usize, CountedRow<Row<K, V>>)], place: usize) -> Option<usize>
+fn number_at<K, V>(rows: &[(RowId, CountedRow<Row<K, V>>)], place: usize) -> Option<RowId>
     ensures { result ≡ first_number (drop place rows.now) }
 {
     let (number, _) = rows.get(place)?;
@@ -92,7 +70,7 @@ fn number_at<K, V>(rows: &[(usize, CountedRow<Row<K, V>>)], place: usize) -> Opt
 #[tactic(auto, using(crate::proofs::RowLemmas::joins))]
 impl<K, V> ListRows<K, V> {
     /// Returns where the row with this number is.
-    fn place(&self, number: usize) -> Place
+    fn place(&self, number: RowId) -> Place
         requires { IsSome (row_under number (self.now.admitted.items ++ self.now.waiting.items)) }
         ensures { IsPlaceIn number self.now.admitted.items self.now.waiting.items result }
     {
@@ -127,27 +105,26 @@ impl<K: Eq + Drop, V: Drop> RowStore<K, V> for ListRows<K, V> {
         self.admitted.len() + self.waiting.len()
     }
 
-    fn find(&self, key: &K, hash: u64, reads: &mut u64) -> Option<usize> {
-        if let Some(number) = number_of(&self.admitted, key, hash, reads) {
-            return Some(number);
-        }
-        number_of(&self.waiting, key, hash, reads)
+    fn find(&self, key: &K, hash: u64, reads: &mut u64) -> Option<RowId> {
+        let admitted = CountedList::new(&self.admitted);
+        let waiting = CountedList::new(&self.waiting);
+        find_row(admitted, waiting, key, hash, reads)
     }
 
-    fn row(&self, number: usize) -> &Row<K, V> {
+    fn row(&self, number: RowId) -> &Row<K, V> {
         match self.place(number) {
             Place::Admitted(place) => self.admitted[place].1.row(),
             Place::Waiting(place) => self.waiting[place].1.row(),
         }
     }
 
-    fn hash(&self, number: usize) -> u64 {
+    fn hash(&self, number: RowId) -> u64 {
         self.row(number).hash
     }
 
     fn numbers_differ(&self) {}
 
-    fn is_admitted(&self, number: usize) -> bool {
+    fn is_admitted(&self, number: RowId) -> bool {
         match self.place(number) {
             Place::Admitted(_) => true,
             Place::Waiting(_) => false,
@@ -159,9 +136,9 @@ impl<K: Eq + Drop, V: Drop> RowStore<K, V> for ListRows<K, V> {
     /// # Errors
     ///
     /// - `AllocError`: an allocation failed, or fewer than `more` numbers are left. The latter
-    ///   takes 2^64 rows.
+    ///   takes 2^32 rows.
     fn reserve(&mut self, more: usize) -> Result<(), AllocError> {
-        if usize::MAX - self.next < more {
+        if ((RowId::MAX - self.next) as usize) < more {
             return Err(AllocError);
         }
         let waiting = self.waiting.len().checked_add(more).ok_or(AllocError)?;
@@ -169,7 +146,7 @@ impl<K: Eq + Drop, V: Drop> RowStore<K, V> for ListRows<K, V> {
         self.waiting.reserve(more)
     }
 
-    fn add(&mut self, row: Row<K, V>) -> usize
+    fn add(&mut self, row: Row<K, V>) -> RowId
         requires { 0 < room_of self.old }
         ensures fresh { row_under result (rows_of self.old) ≡ None }
         ensures waiting { self.new.waiting.items ≡ self.old.waiting.items ++ (result, row) ∷ [] }
@@ -182,7 +159,7 @@ impl<K: Eq + Drop, V: Drop> RowStore<K, V> for ListRows<K, V> {
         number
     }
 
-    fn touch(&mut self, number: usize, touch: Access) -> (EntryInfo, Order) {
+    fn touch(&mut self, number: RowId, touch: Access) -> (EntryInfo, Order) {
         match self.place(number) {
             Place::Admitted(place) => {
                 let (_, mut used) = self.admitted.remove(place);
@@ -197,7 +174,7 @@ impl<K: Eq + Drop, V: Drop> RowStore<K, V> for ListRows<K, V> {
         }
     }
 
-    fn overwrite(&mut self, number: usize, value: V, info: EntryInfo) -> Previous<V> {
+    fn overwrite(&mut self, number: RowId, value: V, info: EntryInfo) -> Previous<V> {
         match self.place(number) {
             Place::Admitted(place) => {
                 let (_, mut row) = self.admitted.remove(place);
@@ -214,7 +191,7 @@ impl<K: Eq + Drop, V: Drop> RowStore<K, V> for ListRows<K, V> {
         }
     }
 
-    fn hide(&mut self, number: usize) {
+    fn hide(&mut self, number: RowId) {
         match self.place(number) {
             Place::Admitted(place) => self.admitted[place].1.hide(),
             Place::Waiting(place) => self.waiting[place].1.hide(),
@@ -225,19 +202,19 @@ impl<K: Eq + Drop, V: Drop> RowStore<K, V> for ListRows<K, V> {
         self.waiting.len()
     }
 
-    fn first_admitted(&self) -> Option<usize> {
+    fn first_admitted(&self) -> Option<RowId> {
         number_at(&self.admitted, 0)
     }
 
-    fn first_expired(&self, now: u64) -> Option<usize> {
+    fn first_expired(&self, now: u64) -> Option<RowId> {
         find_expired(&self.admitted, now)
     }
 
-    fn first_waiting(&self) -> Option<usize> {
+    fn first_waiting(&self) -> Option<RowId> {
         number_at(&self.waiting, 0)
     }
 
-    fn next(&self, number: usize, visits: &mut u128) -> Option<usize> {
+    fn next(&self, number: RowId, visits: &mut u128) -> Option<RowId> {
         step(visits);
         match self.place(number) {
             Place::Admitted(place) => number_at(&self.admitted, place + 1),
@@ -245,7 +222,7 @@ impl<K: Eq + Drop, V: Drop> RowStore<K, V> for ListRows<K, V> {
         }
     }
 
-    fn admit(&mut self, number: usize) {
+    fn admit(&mut self, number: RowId) {
         match place_of(&self.waiting, number) {
             Some(place) => {
                 let (_, newest) = self.waiting.remove(place);
@@ -255,7 +232,7 @@ impl<K: Eq + Drop, V: Drop> RowStore<K, V> for ListRows<K, V> {
         }
     }
 
-    fn remove(&mut self, number: usize) -> (Row<K, V>, Order) {
+    fn remove(&mut self, number: RowId) -> (Row<K, V>, Order) {
         match self.place(number) {
             Place::Admitted(place) => {
                 let (_, row) = self.admitted.remove(place);

@@ -10,6 +10,7 @@ use std::time::Duration;
 ///
 /// A contract sees it as an `EntryInfo`. The private fields do without the room that each `Option`
 /// takes to say whether it has a value.
+#[doc(hidden)]
 #[derive(Drop)]
 pub struct PackedEntryInfo {
     last_modified: u64,

@@ -21,6 +21,10 @@ use std::mem;
 use std::sync::Arc;
 use std::time::Duration;
 
+/// Identifies a row while it is stored: a row number. Links between rows have this width too, so a
+/// store has no more than 2^32 numbers.
+pub type RowId = u32;
+
 /// A lifetime that an entry has of its own.
 #[derive(Clone, Copy, Debug, PartialEq, Eq)]
 pub struct OwnLife {
@@ -49,6 +53,7 @@ pub struct EntryInfo {
 }
 
 /// What an access changes in an `EntryInfo`.
+#[doc(hidden)]
 #[derive(Clone, Copy, Debug, PartialEq, Eq)]
 pub struct Access {
     /// When the access was, in nanoseconds.
@@ -110,6 +115,7 @@ impl EntryInfo {
 }
 
 /// One of the two orders of rows.
+#[doc(hidden)]
 #[derive(Clone, Copy, Debug, PartialEq, Eq)]
 pub enum Order {
     /// The resident rows, in access order.
@@ -119,6 +125,7 @@ pub enum Order {
 }
 
 /// What an overwrite replaced in a row.
+#[doc(hidden)]
 #[derive(Debug, Drop)]
 pub struct Previous<V> {
     /// The old value.
@@ -130,6 +137,7 @@ pub struct Previous<V> {
 }
 
 /// One stored key with its value.
+#[doc(hidden)]
 #[derive(Drop)]
 pub struct Row<K, V> {
     /// The stored key: the one of the write that inserted the entry.
@@ -209,7 +217,7 @@ pub trait RowStore<K: Eq, V>: Drop {
     ///
     /// Adds 1 to `reads` for each row that it reads: at least 1 if it finds a row, and at most 1
     /// for each row of the store. `reads` is 0 before.
-    fn find(&self, key: &K, hash: u64, reads: &mut u64) -> Option<usize>
+    fn find(&self, key: &K, hash: u64, reads: &mut u64) -> Option<RowId>
         requires { reads.old ≡ 0 }
         ensures found { IfSome result (λ number.
             IfSome (row_under number (admitted self.now ++ waiting self.now))
@@ -222,14 +230,14 @@ pub trait RowStore<K: Eq, V>: Drop {
         ensures read { OnSome result (0 < reads.new) };
 
     /// Returns the row with this number. No two rows have the same number.
-    fn row(&self, number: usize) -> &Row<K, V>
+    fn row(&self, number: RowId) -> &Row<K, V>
         requires { IsSome (row_under number (admitted self.now ++ waiting self.now)) }
         ensures row { row_under number (admitted self.now ++ waiting self.now) ≡ Some result.now }
         ensures apart { NumbersDiffer (admitted self.now ++ waiting self.now) };
 
     /// Returns the hash of the row with this number. It comes from the row's link, if reading that
     /// is cheaper than reading the row.
-    fn hash(&self, number: usize) -> u64
+    fn hash(&self, number: RowId) -> u64
         requires { IsSome (row_under number (admitted self.now ++ waiting self.now)) }
         ensures { IfSome (row_under number (admitted self.now ++ waiting self.now))
             (λ row. result ≡ row.hash) };
@@ -239,7 +247,7 @@ pub trait RowStore<K: Eq, V>: Drop {
         ensures { NumbersDiffer (admitted self.now ++ waiting self.now) };
 
     /// Returns whether the row with this number is resident.
-    fn is_admitted(&self, number: usize) -> bool
+    fn is_admitted(&self, number: RowId) -> bool
         requires { IsSome (row_under number (admitted self.now ++ waiting self.now)) }
         ensures { MatchOption (row_under number (admitted self.now))
             (result ≡ false) (λ _. result ≡ true) };
@@ -257,7 +265,7 @@ pub trait RowStore<K: Eq, V>: Drop {
 
     /// Adds a row as the last pending one, and returns its number. No stored row has that number.
     /// Uses the room of one row.
-    fn add(&mut self, row: Row<K, V>) -> usize
+    fn add(&mut self, row: Row<K, V>) -> RowId
         requires { 0 < room self.old }
         ensures fresh { row_under result (admitted self.old ++ waiting self.old) ≡ None }
         ensures waiting { waiting self.new ≡ waiting self.old ++ (result, row) ∷ [] }
@@ -268,7 +276,7 @@ pub trait RowStore<K: Eq, V>: Drop {
     /// A resident row becomes the most recently used; a pending one keeps its place.
     ///
     /// Keeps the weight, the moment of the last write and the mark `is_hidden`. Uses no room.
-    fn touch(&mut self, number: usize, touch: Access) -> (EntryInfo, Order)
+    fn touch(&mut self, number: RowId, touch: Access) -> (EntryInfo, Order)
         requires { IsSome (row_under number (admitted self.old ++ waiting self.old)) }
         ensures before { IfSome (row_under number (admitted self.old ++ waiting self.old))
             (λ row. result.0 ≡ row.info) }
@@ -282,7 +290,7 @@ pub trait RowStore<K: Eq, V>: Drop {
     ///
     /// It is an access: a resident row becomes the most recently used, and a pending one keeps its
     /// place.
-    fn overwrite(&mut self, number: usize, value: V, info: EntryInfo) -> Previous<V>
+    fn overwrite(&mut self, number: RowId, value: V, info: EntryInfo) -> Previous<V>
         requires { IsSome (row_under number (admitted self.old ++ waiting self.old)) }
         ensures before { IfSome (row_under number (admitted self.old ++ waiting self.old))
             (λ row. (result.value ≡ row.value) × (result.info ≡ row.info)) }
@@ -292,7 +300,7 @@ pub trait RowStore<K: Eq, V>: Drop {
         ensures room { room self.old ≤ room self.new };
 
     /// Marks a row invalidated. The row keeps its place. Does not allocate, and uses no room.
-    fn hide(&mut self, number: usize)
+    fn hide(&mut self, number: RowId)
         requires { IsSome (row_under number (admitted self.old ++ waiting self.old)) }
         ensures admitted { admitted self.new ≡ with_row number hidden (admitted self.old) }
         ensures waiting { waiting self.new ≡ with_row number hidden (waiting self.old) }
@@ -303,24 +311,24 @@ pub trait RowStore<K: Eq, V>: Drop {
         ensures { result ≡ length (waiting self.now) };
 
     /// Returns the number of the least recently used resident row, if there is one.
-    fn first_admitted(&self) -> Option<usize>
+    fn first_admitted(&self) -> Option<RowId>
         ensures { result ≡ first_number (admitted self.now) };
 
     /// Returns the number of the first resident row, in access order, whose deadline has come at
     /// `now`.
-    fn first_expired(&self, now: u64) -> Option<usize>
+    fn first_expired(&self, now: u64) -> Option<RowId>
         ensures { result ≡ first_number (expired_at now (admitted self.now)) };
 
     /// Returns the number of the row that has been pending longest. No two rows have the same
     /// number.
-    fn first_waiting(&self) -> Option<usize>
+    fn first_waiting(&self) -> Option<RowId>
         ensures first { result ≡ first_number (waiting self.now) }
         ensures apart { NumbersDiffer (admitted self.now ++ waiting self.now) };
 
     /// Returns the number of the next row in the order of this row, if there is one.
     ///
     /// Counts one step in `visits`. No two rows have the same number.
-    fn next(&self, number: usize, visits: &mut u128) -> Option<usize>
+    fn next(&self, number: RowId, visits: &mut u128) -> Option<RowId>
         requires { IsSome (row_under number (admitted self.now ++ waiting self.now)) }
         ensures behind { MatchOption (row_under number (admitted self.now))
             (result ≡ number_after number (waiting self.now))
@@ -329,7 +337,7 @@ pub trait RowStore<K: Eq, V>: Drop {
         ensures apart { NumbersDiffer (admitted self.now ++ waiting self.now) };
 
     /// Makes a pending row resident, as the most recently used. Does not allocate.
-    fn admit(&mut self, number: usize)
+    fn admit(&mut self, number: RowId)
         requires { IsSome (row_under number (waiting self.old)) }
         ensures waiting { waiting self.new ≡ without_row number (waiting self.old) }
         ensures admitted { IfSome (row_under number (waiting self.old))
@@ -337,7 +345,7 @@ pub trait RowStore<K: Eq, V>: Drop {
         ensures room { room self.old ≤ room self.new };
 
     /// Removes a row, and returns it with its order. Uses no room.
-    fn remove(&mut self, number: usize) -> (Row<K, V>, Order)
+    fn remove(&mut self, number: RowId) -> (Row<K, V>, Order)
         requires { IsSome (row_under number (admitted self.old ++ waiting self.old)) }
         ensures row { row_under number (admitted self.old ++ waiting self.old) ≡ Some result.0 }
         ensures order { IsOrderOf number (admitted self.old) result.1 }

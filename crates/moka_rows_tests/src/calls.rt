@@ -4,7 +4,7 @@ ghost use Rattle.moka_rows.specs.Rows.{row_under};
 
 use moka_expiring_rows::expiring_rows::ExpiringRows;
 use moka_rows::packed::PackedEntryInfo;
-use moka_rows::rows::{Access, EntryInfo, Order, Previous, Row, RowStore};
+use moka_rows::rows::{Access, EntryInfo, Order, Previous, Row, RowId, RowStore};
 use moka_slab::slab_rows::SlabRows;
 use std::alloc::{AllocError, Global};
 use std::sync::Arc;
@@ -115,7 +115,7 @@ fn hash_of(hashes: Hashes, key: u64) -> u64 {
 
 /// Returns the key of a row number by the numbers that were given out. Takes the last one first,
 /// since numbers may come again.
-fn row_of(given: &[(usize, u64)], number: Option<usize>) -> Reply {
+fn row_of(given: &[(RowId, u64)], number: Option<RowId>) -> Reply {
     for (at, key) in given.iter().rev() {
         if number == Some(*at) {
             return Reply::Key(*key);
@@ -125,7 +125,7 @@ fn row_of(given: &[(usize, u64)], number: Option<usize>) -> Reply {
 }
 
 /// Returns the row number of a key, and how many rows were read for it.
-pub fn number_of<R: RowStore<u64, u64>>(rows: &R, hashes: Hashes, key: u64) -> (Option<usize>, u64)
+pub fn number_of<R: RowStore<u64, u64>>(rows: &R, hashes: Hashes, key: u64) -> (Option<RowId>, u64)
     ensures { IfSome result.0
         (λ number. IsSome (row_under number (R.admitted rows.now ++ R.waiting rows.now))) }
 {
@@ -135,14 +135,14 @@ pub fn number_of<R: RowStore<u64, u64>>(rows: &R, hashes: Hashes, key: u64) -> (
 }
 
 /// Returns the row number of the row that has been pending longest.
-fn first_waiting<R: RowStore<u64, u64>>(rows: &R) -> Option<usize>
+fn first_waiting<R: RowStore<u64, u64>>(rows: &R) -> Option<RowId>
     ensures { IfSome result (λ number. IsSome (row_under number (R.waiting rows.now))) }
 {
     rows.first_waiting()
 }
 
 /// Returns whether a row is pending.
-fn waits<R: RowStore<u64, u64>>(rows: &R, number: usize) -> bool
+fn waits<R: RowStore<u64, u64>>(rows: &R, number: RowId) -> bool
     requires { IsSome (row_under number (R.admitted rows.now ++ R.waiting rows.now)) }
     ensures { result ≡ true → IsSome (row_under number (R.waiting rows.now)) }
 {
@@ -158,8 +158,8 @@ fn content_of(row: &Row<u64, u64>) -> Reply {
 /// Does something with the row of a number.
 fn use_row<R: RowStore<u64, u64>>(
     rows: &mut R,
-    given: &[(usize, u64)],
-    number: usize,
+    given: &[(RowId, u64)],
+    number: RowId,
     what: Use,
 ) -> Reply
     requires { IsSome (row_under number (R.admitted rows.old ++ R.waiting rows.old)) }
@@ -211,7 +211,7 @@ pub fn add<R: RowStore<u64, u64>>(
     hashes: Hashes,
     key: u64,
     value: u64,
-) -> Result<usize, AllocError> {
+) -> Result<RowId, AllocError> {
     let hash = hash_of(hashes, key);
     let key = Arc::new(alloc, key)?;
     rows.reserve(1)?;
@@ -228,7 +228,7 @@ fn make_call<R: RowStore<u64, u64>>(
     alloc: Global,
     rows: &mut R,
     hashes: Hashes,
-    given: &mut Vec<(usize, u64)>,
+    given: &mut Vec<(RowId, u64)>,
     call: Call,
 ) -> Result<Reply, AllocError> {
     Ok(match call {

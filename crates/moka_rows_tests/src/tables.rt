@@ -239,6 +239,19 @@ fn lists_answer_the_tables(rt: HostRuntime) -> Result<(), Fail> {
     check_table::<ListRows<u64, u64>>(&rt, rt.alloc(), &HIDDEN)
 }
 
+/// Returns whether an empty store refuses to make room for so many rows.
+fn refuses<R: RowStore<u64, u64>>(alloc: Global, more: usize) -> bool {
+    let mut rows: R = R::new(alloc);
+    rows.reserve(more).is_err()
+}
+
+/// The plain store makes no room for more rows than it has numbers for.
+#[test]
+fn lists_refuse_more_rows_than_numbers(rt: HostRuntime) -> Result<(), Fail> {
+    assert!(rt; refuses::<ListRows<u64, u64>>(rt.alloc(), 1 << 32));
+    Ok(())
+}
+
 /// The slab returns what the tables say.
 #[test]
 fn a_slab_answers_the_tables(rt: HostRuntime) -> Result<(), Fail> {

@@ -3,6 +3,7 @@
 
 pub mod all_segments;
 pub mod by_ref;
+pub mod entry_selector;
 pub mod get_with;
 pub mod opening;
 pub mod or_insert;

@@ -14,6 +14,8 @@ mod refusals;
 #[cfg(test)]
 mod runs;
 #[cfg(test)]
+mod selectors;
+#[cfg(test)]
 mod shares;
 #[cfg(test)]
 mod turns;

@@ -7,15 +7,16 @@ ghost use Rattle.moka_slab.specs.NumberedRows.{row_at, order_of};
 ghost use Rattle.moka_index.specs.RowIndex.{IsLinked};
 ghost use Rattle.moka_slab.specs.Tied.{IsTied};
 
+use crate::lookup::find_row;
 use moka_index::row_index::RowIndex;
 use moka_rows::counted_row::CountedRow;
-use moka_rows::rows::{Access, EntryInfo, Order, Previous, Row, RowStore};
+use moka_rows::rows::{Access, EntryInfo, Order, Previous, Row, RowId, RowStore};
 use moka_rows::visits::step;
 use slab::Slab;
 use std::alloc::{AllocError, Global};
 
 /// The number of the row with the slab's first key. No row has a lower one.
-pub const FIRST: usize = 2;
+pub const FIRST: RowId = 2;
 
 /// A row store in a slab. The rows are linked by their numbers, in two orders, and to the next row
 /// with the same hash.
@@ -51,11 +52,20 @@ fn order(is_admitted: bool) -> Order
 
 /// Returns the slab's key of the row with this number.
 #[inline(always)]
-fn key_of(number: usize) -> usize
+fn key_of(number: RowId) -> usize
     requires { 2 ≤ number }
     ensures { result ≡ number - 2 }
 {
-    number - FIRST
+    (number - FIRST) as usize
+}
+
+/// Returns the number of the row with this key of the slab.
+#[inline(always)]
+fn number_of(key: usize) -> RowId
+    requires { key + 2 < 2 ^ 32 }
+    ensures { result ≡ key + 2 }
+{
+    key as RowId + FIRST
 }
 
 impl<K, V> SlabRows<K, V> {
@@ -63,26 +73,15 @@ impl<K, V> SlabRows<K, V> {
 
     /// Returns the row with this number.
     #[inline(always)]
-    fn counted_row(&self, number: usize) -> &CountedRow<Row<K, V>>
+    fn counted_row(&self, number: RowId) -> &CountedRow<Row<K, V>>
         requires { IsLinked self.now.links number }
         ensures { row_at self.now.rows number ≡ Some result.now }
     {
         &self.rows[key_of(number)]
     }
 
-    /// Returns the row with this number to a lookup, and adds 1 to `reads`.
-    #[inline(always)]
-    fn read_counted(&self, number: usize, reads: &mut u64) -> &Row<K, V>
-        requires linked { IsLinked self.now.links number }
-        requires fits { reads.old < 2 ^ 64 - 1 }
-        ensures row { row_at self.now.rows number ≡ Some result.now }
-        ensures counted { reads.new ≡ reads.old + 1 }
-    {
-        self.counted_row(number).read_counted(reads)
-    }
-
     /// Returns the first resident row whose deadline has come at `now`, found by a walk over them.
-    fn walk_to_expired(&self, now: u64) -> Option<usize>
+    fn walk_to_expired(&self, now: u64) -> Option<RowId>
         ensures { result ≡ first_number (expired_at now (admitted_in self.now)) }
     {
         let links = &self.links;
@@ -99,6 +98,46 @@ impl<K, V> SlabRows<K, V> {
             }
         }
         None
+    }
+}
+
+/// The rows of a store as a lookup is lent them.
+///
+/// A row is reached by `read_counted` alone, which counts it.
+#[derive(Drop)]
+pub(crate) struct CountedRows<'a, K, V> {
+    store: &'a SlabRows<K, V>,
+}
+
+impl<'a, K, V> CountedRows<'a, K, V> {
+    ghost use Rattle.moka_index.specs.RowIndex.{first_at, same_at};
+
+    /// Returns the number of the first row with a hash, if there is one.
+    #[inline(always)]
+    pub fn first(&self, hash: u64) -> Option<RowId>
+        ensures { result ≡ first_at self.now.store.now.links hash }
+    {
+        self.store.links.first(hash)
+    }
+
+    /// Returns the number of the next row with the same hash, if there is one.
+    #[inline(always)]
+    pub fn next_in_chain(&self, number: RowId) -> Option<RowId>
+        requires { IsLinked self.now.store.now.links number }
+        ensures { result ≡ same_at self.now.store.now.links number }
+    {
+        self.store.links.next_in_chain(number)
+    }
+
+    /// Returns the row with this number, and adds 1 to `reads`.
+    #[inline(always)]
+    pub fn read_counted(&self, number: RowId, reads: &mut u64) -> &Row<K, V>
+        requires linked { IsLinked self.now.store.now.links number }
+        requires fits { reads.old < 2 ^ 64 - 1 }
+        ensures row { row_at self.now.store.now.rows number ≡ Some result.now }
+        ensures counted { reads.new ≡ reads.old + 1 }
+    {
+        self.store.counted_row(number).read_counted(reads)
     }
 }
 
@@ -125,7 +164,7 @@ impl<K: Eq + Drop, V: Drop> RowStore<K, V> for SlabRows<K, V> {
 
     /// Returns the number of the row with a key. Reads no more rows than have the key's hash.
     #[inline(always)]
-    fn find(&self, key: &K, hash: u64, reads: &mut u64) -> Option<usize>
+    fn find(&self, key: &K, hash: u64, reads: &mut u64) -> Option<RowId>
         requires { reads.old ≡ 0 }
         ensures found { IfSome result
             (λ number. IfSome (row_under number (rows_of self.now)) (IsRowOf K.eq key.now hash)) }
@@ -135,31 +174,23 @@ impl<K: Eq + Drop, V: Drop> RowStore<K, V> for SlabRows<K, V> {
         ensures read { OnSome result (0 < reads.new) }
         ensures few { reads.new ≤ length (filter (λ p. p.1.hash == hash) (rows_of self.now)) }
     {
-        let mut at = self.links.first(hash);
-        while let Some(number) = at {
-            let row = self.read_counted(number, reads);
-            if *row.key == *key {
-                return Some(number);
-            }
-            at = self.links.next_in_chain(number);
-        }
-        None
+        find_row(CountedRows { store: self }, key, hash, reads)
     }
 
     #[inline(always)]
-    fn row(&self, number: usize) -> &Row<K, V> {
+    fn row(&self, number: RowId) -> &Row<K, V> {
         self.counted_row(number).row()
     }
 
     #[inline(always)]
-    fn hash(&self, number: usize) -> u64 {
+    fn hash(&self, number: RowId) -> u64 {
         self.links.hash(number)
     }
 
     fn numbers_differ(&self) {}
 
     #[inline(always)]
-    fn is_admitted(&self, number: usize) -> bool {
+    fn is_admitted(&self, number: RowId) -> bool {
         self.links.is_admitted(number)
     }
 
@@ -171,14 +202,14 @@ impl<K: Eq + Drop, V: Drop> RowStore<K, V> for SlabRows<K, V> {
     ///   pass 32 bits.
     fn reserve(&mut self, more: usize) -> Result<(), AllocError> {
         self.rows.reserve(more)?;
-        match self.rows.capacity().checked_add(FIRST) {
+        match self.rows.capacity().checked_add(FIRST as usize) {
             Some(places) => self.links.reserve(places, more),
             None => Err(AllocError),
         }
     }
 
     #[inline(always)]
-    fn add(&mut self, row: Row<K, V>) -> usize
+    fn add(&mut self, row: Row<K, V>) -> RowId
         requires { 0 < room_of self.old }
         ensures fresh { row_under result (rows_of self.old) ≡ None }
         ensures waiting { waiting_in self.new ≡ waiting_in self.old ++ (result, row) ∷ [] }
@@ -187,27 +218,27 @@ impl<K: Eq + Drop, V: Drop> RowStore<K, V> for SlabRows<K, V> {
     {
         let hash = row.hash;
         let key = self.rows.insert_reserved(CountedRow::new(row));
-        let number = key + FIRST;
+        let number = number_of(key);
         self.links.add(number, hash);
         number
     }
 
     #[inline(always)]
-    fn touch(&mut self, number: usize, touch: Access) -> (EntryInfo, Order) {
+    fn touch(&mut self, number: RowId, touch: Access) -> (EntryInfo, Order) {
         let info = self.rows[key_of(number)].touch(touch);
         let is_admitted = self.links.touch(number);
         (info, order(is_admitted))
     }
 
     #[inline(always)]
-    fn overwrite(&mut self, number: usize, value: V, info: EntryInfo) -> Previous<V> {
+    fn overwrite(&mut self, number: RowId, value: V, info: EntryInfo) -> Previous<V> {
         let (value, info) = self.rows[key_of(number)].overwrite(value, info);
         let order = order(self.links.touch(number));
         Previous { value, info, order }
     }
 
     #[inline(always)]
-    fn hide(&mut self, number: usize) {
+    fn hide(&mut self, number: RowId) {
         self.rows[key_of(number)].hide();
     }
 
@@ -217,32 +248,32 @@ impl<K: Eq + Drop, V: Drop> RowStore<K, V> for SlabRows<K, V> {
     }
 
     #[inline(always)]
-    fn first_admitted(&self) -> Option<usize> {
+    fn first_admitted(&self) -> Option<RowId> {
         self.links.first_admitted()
     }
 
-    fn first_expired(&self, now: u64) -> Option<usize> {
+    fn first_expired(&self, now: u64) -> Option<RowId> {
         self.walk_to_expired(now)
     }
 
     #[inline(always)]
-    fn first_waiting(&self) -> Option<usize> {
+    fn first_waiting(&self) -> Option<RowId> {
         self.links.first_waiting()
     }
 
     #[inline(always)]
-    fn next(&self, number: usize, visits: &mut u128) -> Option<usize> {
+    fn next(&self, number: RowId, visits: &mut u128) -> Option<RowId> {
         step(visits);
         self.links.next(number)
     }
 
     #[inline(always)]
-    fn admit(&mut self, number: usize) {
+    fn admit(&mut self, number: RowId) {
         self.links.admit(number);
     }
 
     #[inline(always)]
-    fn remove(&mut self, number: usize) -> (Row<K, V>, Order) {
+    fn remove(&mut self, number: RowId) -> (Row<K, V>, Order) {
         let order = order(self.links.remove(number));
         (self.rows.remove(key_of(number)).into_row(), order)
     }

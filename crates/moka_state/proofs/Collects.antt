@@ -6,7 +6,7 @@ use Rattle.moka_policy.specs.declared.policy.Refused.TheVariants.{OutOfMemory, U
 use Rattle.moka_model.specs.Lives.{Settings}
 use Rattle.moka_model.specs.Turns.{Turn, Name, End, Value, Nothing, Failed, Computed, Abandoned, Move, Spent, moved, found, has_ticket_as}
 use Rattle.moka_model.specs.Steps.{AcceptedStep, events_in, turns}
-use Rattle.moka_model.specs.Calls.{Call, Reply, Accepted, Collect, NotYet, reply_by, collected, accepted, after, with_step, with_move, without_move, IfReplied, ReplyMayFail, MayTakeMemory, IsCopiedReply, IsCopiedEnd, Holds}
+use Rattle.moka_model.specs.Calls.{Call, Reply, Accepted, Collect, NotYet, reply_by, collected, accepted, after, with_step, with_move, without_move, IfReplied, ClonesAreInfallible, ReplyMayFail, MayTakeMemory, IsCopiedReply, IsCopiedEnd, Holds}
 use Rattle.moka_model.specs.StandsFor.{View, StandsFor}
 use Rattle.moka_model.proofs.Callers.{whole, unmoved, stands-question}
 use Rattle.moka_turns.specs.declared.table.CollectState.{CollectState}
@@ -60,20 +60,20 @@ module _ {K V E : Type 0} (eq : K → K → Bool) (is_clone : V → V → Type 0
       let it : Accepted K V E = collected name t.name.number (Some e) in
       gives-accepted eq is_clone is_infallible settings steps (Collect name) it (reply_by name end) (is ∙ ap (λ o. Some (collected name t.name.number o)) ended) (answers-copied is_clone name e end copied) (λ out. no-less out.0)
 
-  memory : (t : Turn K V E) → accepted eq settings steps (Collect name) ≡ Some (its t) → (e : End V E) → t.end ≡ Some e → IfReplied (ReplyMayFail is_infallible) (Some (collected name t.name.number (Some e))) → Collects (Err OutOfMemory)
+  memory : (t : Turn K V E) → accepted eq settings steps (Collect name) ≡ Some (its t) → (e : End V E) → t.end ≡ Some e → IfReplied (ReplyMayFail is_clone is_infallible) (Some (collected name t.name.number (Some e))) → Collects (Err OutOfMemory)
   memory t is e ended may =
       let it = is ∙ ap (λ o. Some (collected name t.name.number o)) ended in
-      gives-memory eq is_clone is_infallible settings steps (Collect name) (collected name t.name.number (Some e)) it (subst (IfReplied (ReplyMayFail is_infallible)) (sym it) may) (λ out. no-less out.0)
+      gives-memory eq is_clone is_infallible settings steps (Collect name) (collected name t.name.number (Some e)) it (subst (IfReplied (ReplyMayFail is_clone is_infallible)) (sym it) may) (λ out. no-less out.0)
 
-  takes-end : (t : Turn K V E) → accepted eq settings steps (Collect name) ≡ Some (its t) → (o : Option (End V E)) → t.end ≡ o → TakesCopy o → Collects (Err OutOfMemory)
+  takes-end : (t : Turn K V E) → accepted eq settings steps (Collect name) ≡ Some (its t) → (o : Option (End V E)) → t.end ≡ o → TakesCopy (ClonesAreInfallible is_clone is_infallible) o → Collects (Err OutOfMemory)
   takes-end t is None ended takes = absurd takes
-  takes-end t is (Some (Value v m)) ended takes = memory t is (Value v m) ended tt
+  takes-end t is (Some (Value v m)) ended takes = memory t is (Value v m) ended takes
   takes-end t is (Some (Failed e)) ended takes = memory t is (Failed e) ended tt
   takes-end t is (Some Nothing) ended takes = absurd takes
   takes-end t is (Some Computed) ended takes = absurd takes
   takes-end t is (Some Abandoned) ended takes = absurd takes
 
-  pub collect-gives : (o : Option (Turn K V E)) → found (has_ticket_as eq name) (turns steps) ≡ o → (result : Result (CollectState K V E) (CollectRefused K)) → IsTold is_clone After o result → Collects (result_as name result)
+  pub collect-gives : (o : Option (Turn K V E)) → found (has_ticket_as eq name) (turns steps) ≡ o → (result : Result (CollectState K V E) (CollectRefused K)) → IsTold is_clone is_infallible After o result → Collects (result_as name result)
   collect-gives None is (Ok told) it = absurd it
   collect-gives None is (Err refused) it = subst (λ cause. Collects (Err cause)) (sym it) (ap (option_map its) is, refl)
   collect-gives (Some t) is (Ok (tells.NotYet ticket)) it =
@@ -93,12 +93,12 @@ module _ {K V E : Type 0} (eq : K → K → Bool) {is_clone : V → V → Type 0
       (ap (λ u. with_step (option_map (λ (t : Turn K V E). collected name t.name.number t.end) u) steps) is ∙ ap (λ o. with_step (Some (collected name t.name.number o)) steps) ended)
       (holds (moved (Spent t.name.number) (turns steps)) kept)
 
-  pub collect-stands : (o : Option (Turn K V E)) → found (has_ticket_as eq name) (turns steps) ≡ o → (result : Result (CollectState K V E) (CollectRefused K)) → IsTold is_clone (λ t. Keeps (moved (Spent t.name.number) (turns steps))) o result
+  pub collect-stands : (is_infallible : V → Type 0) (o : Option (Turn K V E)) → found (has_ticket_as eq name) (turns steps) ≡ o → (result : Result (CollectState K V E) (CollectRefused K)) → IsTold is_clone is_infallible (λ t. Keeps (moved (Spent t.name.number) (turns steps))) o result
       → (IsUnspent result → left ≡ rows) → OnOk result Stands
-  collect-stands None is (Ok told) it same = absurd it
-  collect-stands None is (Err refused) it same = tt
-  collect-stands (Some t) is (Ok (tells.NotYet ticket)) it same =
+  collect-stands is_infallible None is (Ok told) it same = absurd it
+  collect-stands is_infallible None is (Err refused) it same = tt
+  collect-stands is_infallible (Some t) is (Ok (tells.NotYet ticket)) it same =
       subst (λ l. StandsFor eq is_clone settings (whole view l) (after eq settings (Collect name) steps)) (sym (same tt))
       (stands-question eq settings view steps stands (Collect name) (ap (λ u. with_step (option_map (λ (t : Turn K V E). collected name t.name.number t.end) u) steps) is ∙ ap (λ o. with_step (Some (collected name t.name.number o)) steps) it))
-  collect-stands (Some t) is (Ok (tells.Ended key end)) it same = spent-stands t is t.end refl (end_of end) it.0 it.1
-  collect-stands (Some t) is (Err refused) it same = tt
+  collect-stands is_infallible (Some t) is (Ok (tells.Ended key end)) it same = spent-stands t is t.end refl (end_of end) it.0 it.1
+  collect-stands is_infallible (Some t) is (Err refused) it same = tt

@@ -82,7 +82,7 @@ module _ {K V E : Type 0} (eq : K → K → Bool) (is_clone : V → V → Type 0
       (subst (λ a. IsReplyOf is_clone a answer) (sym is) same, λ out. draws (subst (WantsNumber (next_number settings (events_in steps)) (turns steps)) is out))
 
   -- or it may take memory
-  pub gives-memory : (it : Accepted K V E) → accepted eq settings steps call ≡ Some it → MayTakeMemory eq is_infallible settings steps call
+  pub gives-memory : (it : Accepted K V E) → accepted eq settings steps call ≡ Some it → MayTakeMemory eq is_clone is_infallible settings steps call
       → ¬ (WantsNumberBy (next_number settings (events_in steps)) (turns steps) it.step.events it.step.move) → GivesThis (Err OutOfMemory)
   gives-memory it is may draws = (may, λ _ out. draws (subst (WantsNumber (next_number settings (events_in steps)) (turns steps)) is out))
 

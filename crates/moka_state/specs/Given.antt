@@ -47,7 +47,7 @@ abbrev pub Gives : {K V E : Type 0} → (K → K → Bool) → (V → V → Type
 Gives eq is_clone is_infallible settings steps call (Ok answer) =
     IsReplyOf is_clone (accepted eq settings steps call) answer × ¬ (IsOutOfNumbers eq settings steps call)
 Gives eq is_clone is_infallible settings steps call (Err causes.OutOfMemory) =
-    MayTakeMemory eq is_infallible settings steps call × (CountsFirst call → ¬ (IsOutOfNumbers eq settings steps call))
+    MayTakeMemory eq is_clone is_infallible settings steps call × (CountsFirst call → ¬ (IsOutOfNumbers eq settings steps call))
 Gives eq is_clone is_infallible settings steps call (Err causes.NumbersUsedUp) = IsOutOfNumbers eq settings steps call
 Gives eq is_clone is_infallible settings steps call (Err causes.UnknownTurn) = IsRefusedAs eq settings UnknownTurn steps call
 Gives eq is_clone is_infallible settings steps call (Err causes.UnknownTicket) = IsRefusedAs eq settings UnknownTicket steps call

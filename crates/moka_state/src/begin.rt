@@ -110,6 +110,7 @@ impl<K: Hash + Drop, V: Clone, C: CacheTypes<K, V>, R: RowStore<K, V>> State<K, 
     /// # Complexity
     ///
     /// Costs a [`State::get`], without hashing the key, and a share of the stored key.
+    #[doc(hidden)]
     pub fn acceptable_entry<F: FnMut(&V) -> bool + Drop>(
         &mut self,
         key: &K,

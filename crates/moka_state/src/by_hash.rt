@@ -30,6 +30,7 @@ fn note_if<F: FrequencySource>(source: &mut F, hash: u64, is_noted: bool)
 impl<K: Hash + Drop, V: Clone, C: CacheTypes<K, V>, R: RowStore<K, V>> State<K, V, C, R> {
     /// Returns the hash of `key` by the cache's hasher, as the calls that take a hash want it.
     /// Reads no row.
+    #[doc(hidden)]
     #[inline(always)]
     pub fn hash(&self, key: &K) -> u64
         ensures { IsHashOf (⟦<C as StateView<K, V>>⟧.settings self.now.settings) key.now result }
@@ -47,6 +48,7 @@ impl<K: Hash + Drop, V: Clone, C: CacheTypes<K, V>, R: RowStore<K, V>> State<K, 
     /// # Complexity
     ///
     /// In a `CacheState`, reads no rows but those that have the key's hash.
+    #[doc(hidden)]
     pub fn get_with_hash(&mut self, key: &K, hash: u64, now: u64) -> Result<Option<V>, Refused>
         requires hash { IsHashOf (⟦<C as StateView<K, V>>⟧.settings self.old.settings)
             key.now hash }
@@ -86,6 +88,7 @@ impl<K: Hash + Drop, V: Clone, C: CacheTypes<K, V>, R: RowStore<K, V>> State<K, 
     /// # Complexity
     ///
     /// In a `CacheState`, reads no rows but those that have the key's hash, apart from a flush.
+    #[doc(hidden)]
     pub fn insert_with_hash(
         &mut self,
         key: K,
@@ -195,6 +198,7 @@ impl<K: Hash + Drop, V: Clone, C: CacheTypes<K, V>, R: RowStore<K, V>> State<K, 
 
     /// Works like [`State::contains_key`], given the key's hash, as [`State::hash`] returns it. The
     /// key is not hashed again.
+    #[doc(hidden)]
     pub fn contains_key_with_hash(&self, key: &K, hash: u64, now: u64) -> bool
         requires hash { IsHashOf (⟦<C as StateView<K, V>>⟧.settings self.now.settings)
             key.now hash }
@@ -210,6 +214,7 @@ impl<K: Hash + Drop, V: Clone, C: CacheTypes<K, V>, R: RowStore<K, V>> State<K, 
 
     /// Works like [`State::invalidate`], given the key's hash, as [`State::hash`] returns it. The
     /// key is not hashed again. Does not allocate.
+    #[doc(hidden)]
     pub fn invalidate_with_hash(&mut self, key: &K, hash: u64, now: u64)
         requires hash { IsHashOf (⟦<C as StateView<K, V>>⟧.settings self.old.settings)
             key.now hash }
@@ -238,6 +243,7 @@ impl<K: Hash + Drop, V: Clone, C: CacheTypes<K, V>, R: RowStore<K, V>> State<K, 
     /// # Complexity
     ///
     /// In a `CacheState`, reads no rows but those that have the key's hash.
+    #[doc(hidden)]
     pub fn remove_with_hash(&mut self, key: &K, hash: u64, now: u64) -> Result<Option<V>, Refused>
         requires hash { IsHashOf (⟦<C as StateView<K, V>>⟧.settings self.old.settings)
             key.now hash }

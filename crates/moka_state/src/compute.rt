@@ -19,7 +19,7 @@ use moka_model::entry::Entry;
 use moka_model::notification::RemovalCause;
 use moka_model::turns::{Kind, Op, Outcome};
 use moka_policy::policy::{CacheTypes, FrequencySource, Refused};
-use moka_rows::rows::RowStore;
+use moka_rows::rows::{RowId, RowStore};
 use moka_table::table::Table;
 use moka_turns::handles::Turn;
 use moka_turns::turn_key::TurnKey;
@@ -31,7 +31,7 @@ use std::sync::Arc;
 // that is saved, if any.
 #[derive(Drop)]
 struct Shown<K, V> {
-    number: usize,
+    number: RowId,
     entry: Entry<K, V>,
     saved: Option<V>,
 }
@@ -181,11 +181,8 @@ impl<K: Hash + Drop, V: Clone, C: CacheTypes<K, V>, R: RowStore<K, V>> State<K, 
         ensures kept_for { IfOk result (ShownKeepsFor C.keeps (arc_value key)) }
         ensures settings { self.new.settings ≡ self.old.settings }
     {
-        let wanted = TurnKey {
-            hash,
-            kind: Kind::Compute,
-            key,
-        };
+        let kind = Kind::Compute;
+        let wanted = TurnKey { hash, kind, key };
         let now = self.latest.max(now);
         if self.turns.is_awaitable(&wanted) {
             if !may_wait {
@@ -210,23 +207,18 @@ impl<K: Hash + Drop, V: Clone, C: CacheTypes<K, V>, R: RowStore<K, V>> State<K, 
             self.next_number += 1;
             return Ok(BegunCompute::Run(turn, None));
         };
-        let Shown {
-            number,
-            entry,
-            saved,
-        } = shown;
-        let turn = match self.turns.open_shown(wanted, next, true, saved) {
+        let turn = match self.turns.open_shown(wanted, next, true, shown.saved) {
             Ok(turn) => turn,
             Err(cause) => {
-                self.discards.entry.discard(entry);
+                self.discards.entry.discard(shown.entry);
                 return Err(cause);
             }
         };
         self.housekeeper
-            .hit(&mut self.table, number, hash, now, &self.behaviour);
+            .hit(&mut self.table, shown.number, hash, now, &self.behaviour);
         self.latest = now;
         self.next_number += 1;
-        Ok(BegunCompute::Run(turn, Some(entry)))
+        Ok(BegunCompute::Run(turn, Some(shown.entry)))
     }
 
     // Ends a compute with an operation.

@@ -35,9 +35,10 @@ fn into_shown_turn<K, V>(
 }
 
 impl<K: Hash + Drop, V: Clone, C: CacheTypes<K, V>, R: RowStore<K, V>> State<K, V, C, R> {
-    // Runs `f` on the live entry of `key`, and does what it returns, in one turn. The begin saves a
-    // clone of the live value, which an `Op::Nop` returns.
-    pub(crate) fn compute_with<F: FnOnce(Option<Entry<K, V>>) -> Op<V> + Drop>(
+    /// Runs `f` on the live entry of `key`, and does what it returns, in one turn. The begin saves a
+    /// clone of the live value, which an `Op::Nop` returns.
+    #[doc(hidden)]
+    pub fn compute_with<F: FnOnce(Option<Entry<K, V>>) -> Op<V> + Drop>(
         &mut self,
         key: K,
         f: F,
@@ -59,9 +60,10 @@ impl<K: Hash + Drop, V: Clone, C: CacheTypes<K, V>, R: RowStore<K, V>> State<K, 
         self.end_compute(turn, f(shown), now)
     }
 
-    // Works like `compute_with`, but always puts the value that `f` returns, and returns its entry.
-    // Saves no clone.
-    pub(crate) fn upsert_with<F: FnOnce(Option<Entry<K, V>>) -> V + Drop>(
+    /// Works like `compute_with`, but always puts the value that `f` returns, and returns its entry.
+    /// Saves no clone.
+    #[doc(hidden)]
+    pub fn upsert_with<F: FnOnce(Option<Entry<K, V>>) -> V + Drop>(
         &mut self,
         key: K,
         f: F,
@@ -83,10 +85,14 @@ impl<K: Hash + Drop, V: Clone, C: CacheTypes<K, V>, R: RowStore<K, V>> State<K, 
         self.end_with_put(turn, f(shown), now)
     }
 
-    // Works like `compute_with`, for a closure that may fail: then the turn is abandoned.
-    pub(crate) fn try_compute_with<
-        F: FnOnce(Option<Entry<K, V>>) -> Result<Op<V>, C::Error> + Drop,
-    >(&mut self, key: K, f: F, now: u64) -> Result<Result<CompResult<K, V>, C::Error>, Refused>
+    /// Works like `compute_with`, for a closure that may fail: then the turn is abandoned.
+    #[doc(hidden)]
+    pub fn try_compute_with<F: FnOnce(Option<Entry<K, V>>) -> Result<Op<V>, C::Error> + Drop>(
+        &mut self,
+        key: K,
+        f: F,
+        now: u64,
+    ) -> Result<Result<CompResult<K, V>, C::Error>, Refused>
         requires asks { (shown : Option (Entry K V)) → IfSome shown (EntryKeeps C.keeps key)
             → F.pre f shown }
         requires keeps { (shown : Option (Entry K V)) (said : Result (Op V) C.Error)

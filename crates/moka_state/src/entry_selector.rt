@@ -139,7 +139,7 @@ impl<'a, K: Hash + Drop, V: Clone, C: CacheTypes<K, V>, R: RowStore<K, V>> State
         ensures settings { self.exit.0.now.settings ≡ self.entry.state.now.settings }
     {
         let StateEntrySelector { state, key, at } = self;
-        state.load(key, init, at)
+        state.entry_or_insert_with(key, init, at)
     }
 
     /// Returns the entry of the key's live value, unless `replace_if` returns true for it.
@@ -164,7 +164,7 @@ impl<'a, K: Hash + Drop, V: Clone, C: CacheTypes<K, V>, R: RowStore<K, V>> State
         ensures settings { self.exit.0.now.settings ≡ self.entry.state.now.settings }
     {
         let StateEntrySelector { state, key, at } = self;
-        state.load_if(key, init, replace_if, at)
+        state.entry_or_insert_with_if(key, init, replace_if, at)
     }
 
     /// Returns the entry of the key's live value. If there is none, runs `init`, which may return
@@ -173,7 +173,6 @@ impl<'a, K: Hash + Drop, V: Clone, C: CacheTypes<K, V>, R: RowStore<K, V>> State
     /// # Errors
     ///
     /// As [`StateEntrySelector::or_insert_with`], for turns of kind `Optionally`.
-    #[tactic(auto, using(crate::proofs::Loaders::optional_owes))]
     pub fn or_optionally_insert_with<F: FnOnce() -> Option<V> + Drop>(
         self,
         init: F,
@@ -188,7 +187,7 @@ impl<'a, K: Hash + Drop, V: Clone, C: CacheTypes<K, V>, R: RowStore<K, V>> State
         ensures settings { self.exit.0.now.settings ≡ self.entry.state.now.settings }
     {
         let StateEntrySelector { state, key, at } = self;
-        state.load(key, init, at)
+        state.entry_or_optionally_insert_with(key, init, at)
     }
 
     /// Returns the entry of the key's live value. If there is none, runs `init`, which may fail:
@@ -199,7 +198,6 @@ impl<'a, K: Hash + Drop, V: Clone, C: CacheTypes<K, V>, R: RowStore<K, V>> State
     /// As [`StateEntrySelector::or_insert_with`], for turns of kind `Try`. Also:
     ///
     /// - `OutOfMemory`: the `Arc` of the error could not be allocated. The turn is abandoned.
-    #[tactic(auto, using(crate::proofs::Loaders::tried_owes))]
     pub fn or_try_insert_with<F: FnOnce() -> Result<V, C::Error> + Drop>(
         self,
         init: F,
@@ -214,7 +212,7 @@ impl<'a, K: Hash + Drop, V: Clone, C: CacheTypes<K, V>, R: RowStore<K, V>> State
         ensures settings { self.exit.0.now.settings ≡ self.entry.state.now.settings }
     {
         let StateEntrySelector { state, key, at } = self;
-        state.load(key, init, at)
+        state.entry_or_try_insert_with(key, init, at)
     }
 
     /// Runs `f` on the entry of the key's live value, if there is one, and does what it returns.

@@ -75,6 +75,7 @@ impl<K: Hash + Drop, V: Clone, C: CacheTypes<K, V>, R: RowStore<K, V>> State<K, 
 
     /// Works like [`State::or_insert`], given the key's hash, as [`State::hash`] returns it. The
     /// key is not hashed again.
+    #[doc(hidden)]
     pub fn or_insert_with_hash(
         &mut self,
         key: &Arc<K>,
@@ -248,6 +249,7 @@ impl<K: Hash + Drop, V: Clone + Default, C: CacheTypes<K, V>, R: RowStore<K, V>>
 
     /// Works like [`State::or_default`], given the key's hash, as [`State::hash`] returns it. The
     /// key is not hashed again.
+    #[doc(hidden)]
     pub fn or_default_with_hash(
         &mut self,
         key: K,

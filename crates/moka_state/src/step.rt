@@ -196,6 +196,7 @@ impl<K: Hash + Drop, V: Clone, C: CacheTypes<K, V>, R: RowStore<K, V>> State<K, 
     /// Works like [`State::step`], given the hash of the step's key, as [`State::hash`] returns it.
     /// The key is not hashed again, except in a step of a turn. For a step without a key, any
     /// number will do.
+    #[doc(hidden)]
     pub fn step_with_hash(&mut self, step: Step<K, V, C>, hash: u64) -> Reply<K, V, C>
         requires hash { IsHashOfStep (⟦<C as StateView<K, V>>⟧.settings self.old.settings)
             step hash }

@@ -80,7 +80,7 @@ impl<K: Hash + Drop> WalkCursor<K> {
     }
 
     /// Returns a key that is live at this moment with a clone of its value, or `None` at the end.
-    /// Keys come in no order, and no key comes twice.
+    /// Keys come in no order. Over the states of one cache no key comes twice.
     ///
     /// `now` is the moment of the call, in nanoseconds. Does not count as an access, and changes no
     /// state. The states have to be those of the calls before, in the same order.

@@ -6,7 +6,7 @@ ghost use Rattle.moka_table.specs.Table.{entries, hidden_where, all_hidden};
 
 use crate::table::Table;
 use moka_policy::policy::Predicate;
-use moka_rows::rows::RowStore;
+use moka_rows::rows::{RowId, RowStore};
 
 /// A predicate that holds of each key and value.
 struct Always;
@@ -103,7 +103,7 @@ fn hide_waiting<K: Eq + Drop, V: Drop, R: RowStore<K, V>, P: Predicate<K, V>>(
 /// Marks a row invalidated if a predicate holds of its key and value.
 fn hide_if<K: Eq + Drop, V: Drop, R: RowStore<K, V>, P: Predicate<K, V>>(
     table: &mut Table<K, V, R>,
-    number: usize,
+    number: RowId,
     predicate: &P,
 )
     requires stored { IsSome (row_under number (entries table.old)) }

@@ -10,7 +10,7 @@ ghost use Rattle.moka_table.specs.Table.{entries, removal_of};
 use crate::table::Table;
 use moka_model::entry::Entry;
 use moka_model::notification::Notice;
-use moka_rows::rows::RowStore;
+use moka_rows::rows::{RowId, RowStore};
 use std::alloc::AllocError;
 
 // Returns whether there is a closure and it asks to replace the value.
@@ -29,7 +29,7 @@ fn asks_to_replace<V, F: FnMut(&V) -> bool + Drop>(value: &V, replace_if: &mut O
 impl<K: Eq + Drop, V: Clone, R: RowStore<K, V>> Table<K, V, R> {
     /// Returns the number of a key's row if its value is live at `now`.
     #[inline(always)]
-    pub fn find_live(&self, key: &K, hash: u64, now: u64) -> Option<usize>
+    pub fn find_live(&self, key: &K, hash: u64, now: u64) -> Option<RowId>
         ensures { FindsLive K.eq key.now hash now (entries self.now) result }
     {
         let number = self.find(key, hash)?;
@@ -50,7 +50,7 @@ impl<K: Eq + Drop, V: Clone, R: RowStore<K, V>> Table<K, V, R> {
         hash: u64,
         replace_if: &mut Option<F>,
         now: u64,
-    ) -> Option<usize>
+    ) -> Option<RowId>
         requires { IfSome replace_if.old
             (TakesLiveRow K.eq F.FnMut key.now hash now (entries self.now)) }
         ensures accepts { (said : Option Bool) × Accepts K.eq F.FnMut replace_if.old key.now
@@ -70,7 +70,7 @@ impl<K: Eq + Drop, V: Clone, R: RowStore<K, V>> Table<K, V, R> {
     /// # Errors
     ///
     /// - `AllocError`: an allocation failed.
-    pub fn entry(&self, number: usize) -> Result<Entry<K, V>, AllocError>
+    pub fn entry(&self, number: RowId) -> Result<Entry<K, V>, AllocError>
         requires { IsSome (row_under number (entries self.now)) }
         ensures { IfOk result (λ entry. IfSome (row_under number (entries self.now)) (λ row.
             IsEntryOfRow V.is_clone row (entry_of entry))) }

@@ -11,7 +11,7 @@ ghost use Rattle.moka_table.specs.Table.{Contents, entries, weight_of, weight_in
 use crate::into_arc::UnusedKey;
 use moka_deferred::deferred::Deferred;
 use moka_model::notification::{Notice, RemovalCause};
-use moka_rows::rows::{Access, EntryInfo, Order, Previous, Row, RowStore};
+use moka_rows::rows::{Access, EntryInfo, Order, Previous, Row, RowId, RowStore};
 use std::alloc::{AllocError, Global};
 use std::collections::VecDeque;
 use std::marker::Model;
@@ -21,7 +21,7 @@ use std::sync::Arc;
 #[derive(Drop)]
 pub enum Lookup<K> {
     /// In the row with this number. `key` is the stored key.
-    Stored { number: usize, key: Arc<K> },
+    Stored { number: RowId, key: Arc<K> },
     /// Nowhere.
     Absent,
 }
@@ -165,7 +165,7 @@ impl<K: Eq + Drop, V: Drop, R: RowStore<K, V>> Table<K, V, R> {
 
     /// Returns the number of the row with a key, given the key's hash.
     #[inline(always)]
-    pub fn find(&self, key: &K, hash: u64) -> Option<usize>
+    pub fn find(&self, key: &K, hash: u64) -> Option<RowId>
         ensures found { IfSome result
             (λ number. IfSome (row_under number (entries self.now)) (IsRowOf K.eq key.now hash)) }
         ensures stored { IfSome result (λ number. IsSome (row_under number (entries self.now))) }
@@ -177,7 +177,7 @@ impl<K: Eq + Drop, V: Drop, R: RowStore<K, V>> Table<K, V, R> {
 
     /// Returns the row with this number.
     #[inline(always)]
-    pub fn row(&self, number: usize) -> &Row<K, V>
+    pub fn row(&self, number: RowId) -> &Row<K, V>
         requires { IsSome (row_under number (entries self.now)) }
         ensures { row_under number (entries self.now) ≡ Some result.now }
     {
@@ -187,7 +187,7 @@ impl<K: Eq + Drop, V: Drop, R: RowStore<K, V>> Table<K, V, R> {
     /// Returns the hash of the row with this number. Does not read the row if the store has the
     /// hash elsewhere.
     #[inline(always)]
-    pub fn hash(&self, number: usize) -> u64
+    pub fn hash(&self, number: RowId) -> u64
         requires { IsSome (row_under number (entries self.now)) }
         ensures { IfSome (row_under number (entries self.now)) (λ row. result ≡ row.hash) }
     {
@@ -236,7 +236,7 @@ impl<K: Eq + Drop, V: Drop, R: RowStore<K, V>> Table<K, V, R> {
 
     /// Returns the number of the least recently used resident row, if there is one.
     #[inline(always)]
-    pub fn first_admitted(&self) -> Option<usize>
+    pub fn first_admitted(&self) -> Option<RowId>
         ensures { result ≡ first_number self.now.admitted }
     {
         self.rows.first_admitted()
@@ -245,7 +245,7 @@ impl<K: Eq + Drop, V: Drop, R: RowStore<K, V>> Table<K, V, R> {
     /// Returns the number of the first resident row, in access order, whose deadline has come at
     /// `now`. No two rows have the same number.
     #[inline(always)]
-    pub fn first_expired(&self, now: u64) -> Option<usize>
+    pub fn first_expired(&self, now: u64) -> Option<RowId>
         ensures first { result ≡ first_number (expired_at now self.now.admitted) }
         ensures apart { NumbersDiffer (entries self.now) }
     {
@@ -256,7 +256,7 @@ impl<K: Eq + Drop, V: Drop, R: RowStore<K, V>> Table<K, V, R> {
     /// Returns the number of the row that has been pending longest. No two rows have the same
     /// number.
     #[inline(always)]
-    pub fn first_waiting(&self) -> Option<usize>
+    pub fn first_waiting(&self) -> Option<RowId>
         ensures first { result ≡ first_number self.now.waiting }
         ensures apart { NumbersDiffer (entries self.now) }
     {
@@ -266,7 +266,7 @@ impl<K: Eq + Drop, V: Drop, R: RowStore<K, V>> Table<K, V, R> {
     /// Returns the number of the next row in the order of this row, if there is one. No two rows
     /// have the same number. Counts one step in `visits`.
     #[inline(always)]
-    pub fn next(&self, number: usize, visits: &mut u128) -> Option<usize>
+    pub fn next(&self, number: RowId, visits: &mut u128) -> Option<RowId>
         requires { IsSome (row_under number (entries self.now)) }
         ensures behind { MatchOption (row_under number self.now.admitted)
             (result ≡ number_after number self.now.waiting)
@@ -345,7 +345,7 @@ impl<K: Eq + Drop, V: Drop, R: RowStore<K, V>> Table<K, V, R> {
     /// Applies an access to a row. Keeps the weight, the moment of the last write and the mark
     /// `is_hidden`.
     #[inline(always)]
-    pub fn touch(&mut self, number: usize, touch: Access)
+    pub fn touch(&mut self, number: RowId, touch: Access)
         requires { IsSome (row_under number (entries self.old)) }
         ensures rows { UsesRow number (touched touch) self.old self.new }
         ensures notices { self.new.notices ≡ self.old.notices }
@@ -361,7 +361,7 @@ impl<K: Eq + Drop, V: Drop, R: RowStore<K, V>> Table<K, V, R> {
     /// it is `Expired` if the old deadline had come when the new value was written, and else
     /// `Replaced`.
     #[inline(always)]
-    pub fn overwrite(&mut self, number: usize, key: Arc<K>, value: V, info: EntryInfo)
+    pub fn overwrite(&mut self, number: RowId, key: Arc<K>, value: V, info: EntryInfo)
         requires stored { IsSome (row_under number (entries self.old)) }
         requires room { 0 < self.old.room }
         requires shown { info.is_hidden ≡ false }
@@ -388,7 +388,7 @@ impl<K: Eq + Drop, V: Drop, R: RowStore<K, V>> Table<K, V, R> {
     }
 
     /// Marks a row invalidated, in its place. Does not allocate, and uses no room.
-    pub fn hide(&mut self, number: usize)
+    pub fn hide(&mut self, number: RowId)
         requires { IsSome (row_under number (entries self.old)) }
         ensures admitted { self.new.admitted ≡ with_row number hidden self.old.admitted }
         ensures waiting { self.new.waiting ≡ with_row number hidden self.old.waiting }
@@ -423,7 +423,7 @@ impl<K: Eq + Drop, V: Drop, R: RowStore<K, V>> Table<K, V, R> {
     /// Makes a pending row resident, as the most recently used. Does not allocate, and uses no
     /// room.
     #[inline(always)]
-    pub fn admit(&mut self, number: usize)
+    pub fn admit(&mut self, number: RowId)
         requires { IsSome (row_under number self.old.waiting) }
         ensures waiting { self.new.waiting ≡ without_row number self.old.waiting }
         ensures admitted { IfSome (row_under number self.old.waiting)
@@ -440,7 +440,7 @@ impl<K: Eq + Drop, V: Drop, R: RowStore<K, V>> Table<K, V, R> {
 
     /// Removes a row, and adds a notice with this cause. Does not allocate, and uses no room.
     #[inline(always)]
-    pub fn evict(&mut self, number: usize, cause: RemovalCause)
+    pub fn evict(&mut self, number: RowId, cause: RemovalCause)
         requires { IsSome (row_under number (entries self.old)) }
         ensures rows { TakesRow number self.old self.new }
         ensures notices { Notifies number (λ row. row.key) (λ _. cause) self.old self.new }

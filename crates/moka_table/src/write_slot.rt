@@ -12,7 +12,7 @@ use moka_expiration::expiration_policy::ExpirationPolicy;
 use moka_expiration::view::BehaviourView;
 use moka_policy::policy::CacheTypes;
 use moka_rows::packed::PackedEntryInfo;
-use moka_rows::rows::{EntryInfo, Row, RowStore};
+use moka_rows::rows::{EntryInfo, Row, RowId, RowStore};
 use std::alloc::Global;
 use std::hash::Hash;
 use std::sync::Arc;
@@ -21,7 +21,7 @@ use std::sync::Arc;
 #[derive(Drop)]
 pub enum WriteSlot<K> {
     /// Over the value of the row with this number. `key` is the stored key.
-    Occupied { number: usize, key: Arc<K> },
+    Occupied { number: RowId, key: Arc<K> },
     /// Into a new row, under this key.
     Vacant { key: Arc<K> },
 }

@@ -5,7 +5,7 @@ ghost use Rattle.moka_state.specs.Rows.{row_under};
 use crate::subject::room;
 use moka_state::list_rows::ListRows;
 use moka_state::packed::PackedEntryInfo;
-use moka_state::rows::{Access, EntryInfo, Row, RowStore};
+use moka_state::rows::{Access, EntryInfo, Row, RowId, RowStore};
 use std::alloc::{AllocError, Global};
 use std::process::Abort;
 use std::sync::Arc;
@@ -84,7 +84,7 @@ enum Reply {
 }
 
 /// Returns the row number of a key with this hash.
-fn number_of<R: RowStore<u64, &'static str>>(rows: &R, key: u64, hash: u64) -> Option<usize>
+fn number_of<R: RowStore<u64, &'static str>>(rows: &R, key: u64, hash: u64) -> Option<RowId>
     ensures { IfSome result
         (λ number. IsSome (row_under number (R.admitted rows.now ++ R.waiting rows.now))) }
 {
@@ -93,14 +93,14 @@ fn number_of<R: RowStore<u64, &'static str>>(rows: &R, key: u64, hash: u64) -> O
 }
 
 /// Returns the row number of the row that has been pending longest.
-fn first_waiting<R: RowStore<u64, &'static str>>(rows: &R) -> Option<usize>
+fn first_waiting<R: RowStore<u64, &'static str>>(rows: &R) -> Option<RowId>
     ensures { IfSome result (λ number. IsSome (row_under number (R.waiting rows.now))) }
 {
     rows.first_waiting()
 }
 
 /// Returns the key of a row number, by the row numbers and keys that were added.
-fn row_of(keys: &[(usize, u64)], number: Option<usize>) -> Reply {
+fn row_of(keys: &[(RowId, u64)], number: Option<RowId>) -> Reply {
     for (given, key) in keys {
         if number == Some(*given) {
             return Reply::Key(*key);
@@ -117,8 +117,8 @@ fn value_of(row: &Row<u64, &'static str>) -> Reply {
 /// Does something with the row of a number.
 fn use_row<R: RowStore<u64, &'static str>>(
     rows: &mut R,
-    keys: &[(usize, u64)],
-    number: usize,
+    keys: &[(RowId, u64)],
+    number: RowId,
     what: Use,
 ) -> Reply
     requires { IsSome (row_under number (R.admitted rows.old ++ R.waiting rows.old)) }
@@ -140,7 +140,7 @@ fn use_row<R: RowStore<u64, &'static str>>(
 /// Does something with the row of a key, if there is one.
 fn use_row_of<R: RowStore<u64, &'static str>>(
     rows: &mut R,
-    keys: &[(usize, u64)],
+    keys: &[(RowId, u64)],
     key: u64,
     hash: u64,
     what: Use,
@@ -169,7 +169,7 @@ fn add<R: RowStore<u64, &'static str>>(
     key: u64,
     hash: u64,
     value: &'static str,
-) -> Result<usize, AllocError> {
+) -> Result<RowId, AllocError> {
     let key = Arc::new(alloc, key)?;
     rows.reserve(1)?;
     Ok(rows.add(Row {
@@ -184,7 +184,7 @@ fn add<R: RowStore<u64, &'static str>>(
 fn make_call<R: RowStore<u64, &'static str>>(
     alloc: Global,
     rows: &mut R,
-    keys: &mut Vec<(usize, u64)>,
+    keys: &mut Vec<(RowId, u64)>,
     call: Call,
 ) -> Result<Reply, AllocError> {
     Ok(match call {
@@ -217,7 +217,7 @@ fn check_all<R: RowStore<u64, &'static str>>(
     rt: &impl Abort,
     alloc: Global,
     rows: &mut R,
-    keys: &mut Vec<(usize, u64)>,
+    keys: &mut Vec<(RowId, u64)>,
     table: &[(Call, Reply)],
 ) -> Result<(), Fail> {
     for (place, (call, expected)) in table.iter().enumerate() {

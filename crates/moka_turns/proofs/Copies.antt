@@ -1,7 +1,7 @@
 -- Clones of ends.
 use Rattle.std.proofs.Common.{◌≡◌, true, Option, Some, None, refl, ◌∙◌, subst, is_none}
 use Rattle.moka_model.specs.Turns.{End, Value, Nothing, Failed, Computed, Abandoned}
-use Rattle.moka_model.specs.Calls.{IsCopyOf, IsCopiedEnd}
+use Rattle.moka_model.specs.Calls.{ClonesAreInfallible, IsCopyOf, IsCopiedEnd}
 use Rattle.moka_turns.specs.CollectState.{TakesCopy}
 
 -- an open turn has no end
@@ -29,13 +29,18 @@ copied-twice is_clone compose (Some Computed) b c is more = subst (λ x. IsCopie
 copied-twice is_clone compose (Some Abandoned) b c is more = subst (λ x. IsCopiedEnd is_clone x c) is more
 
 -- if cloning the clone of an end can fail, so can cloning the end
-pub takes-alike : {V E : Type 0} (is_clone : V → V → Type 0) (a b : Option (End V E)) → IsCopiedEnd is_clone a b → TakesCopy b → TakesCopy a
-takes-alike is_clone (Some (Value v m)) b is takes = tt
-takes-alike is_clone (Some (Failed e)) b is takes = tt
-takes-alike is_clone None b is takes = subst TakesCopy is takes
-takes-alike is_clone (Some Nothing) b is takes = subst TakesCopy is takes
-takes-alike is_clone (Some Computed) b is takes = subst TakesCopy is takes
-takes-alike is_clone (Some Abandoned) b is takes = subst TakesCopy is takes
+pub takes-alike : {V E : Type 0} (is_clone : V → V → Type 0) (is_infallible : V → Type 0) (a b : Option (End V E)) → IsCopiedEnd is_clone a b → TakesCopy is_infallible b → TakesCopy (ClonesAreInfallible is_clone is_infallible) a
+takes-alike is_clone is_infallible (Some (Value v m)) (Some (Value w n)) is takes = λ never. takes (never w is.0)
+takes-alike is_clone is_infallible (Some (Value v m)) None is takes = cc
+takes-alike is_clone is_infallible (Some (Value v m)) (Some Nothing) is takes = cc
+takes-alike is_clone is_infallible (Some (Value v m)) (Some (Failed e)) is takes = cc
+takes-alike is_clone is_infallible (Some (Value v m)) (Some Computed) is takes = cc
+takes-alike is_clone is_infallible (Some (Value v m)) (Some Abandoned) is takes = cc
+takes-alike is_clone is_infallible (Some (Failed e)) b is takes = tt
+takes-alike is_clone is_infallible None b is takes = subst (TakesCopy is_infallible) is takes
+takes-alike is_clone is_infallible (Some Nothing) b is takes = subst (TakesCopy is_infallible) is takes
+takes-alike is_clone is_infallible (Some Computed) b is takes = subst (TakesCopy is_infallible) is takes
+takes-alike is_clone is_infallible (Some Abandoned) b is takes = subst (TakesCopy is_infallible) is takes
 
 pub value-twice : {V : Type 0} (is_clone : V → V → Type 0) → ((u v w : V) → is_clone u v → is_clone v w → is_clone u w) → (a b c : Option V) → IsCopyOf is_clone a b → IsCopyOf is_clone b c → IsCopyOf is_clone a c
 value-twice is_clone compose None None None is more = tt

@@ -61,14 +61,16 @@ module _ {K V E : Type 0} (is_clone : V → V → Type 0) where
       (final : End V E) → IfSome retained (λ own. IsCopiedEnd is_clone (Some final) (Some (end_of own)))
       → After (moved (Ended turn.number final) ts)
 
-module _ {K V E : Type 0} (eq : K → K → Bool) (is_clone : V → V → Type 0) where
+module _ {K V E : Type 0} (eq : K → K → Bool) (is_clone : V → V → Type 0) (is_infallible : V → Type 0) where
   -- The result of collecting a ticket, by the turn that has its name and an unspent ticket, if clones compose.
   abbrev pub Collects : Ticket K → Result (CollectState K V E) (CollectRefused K) → List (Turn K V E) →
       (List (Turn K V E) → Type 0) → Type 0
   Collects ticket result ts After =
       ClonesCompose is_clone
-      → IsTold is_clone (λ t. After (moved (Spent t.name.number) ts)) (found (has_ticket_as eq (ticket_name ticket)) ts) result
+      → IsTold is_clone is_infallible (λ t. After (moved (Spent t.name.number) ts)) (found (has_ticket_as eq (ticket_name ticket)) ts)
+      result
 
+module _ {K V E : Type 0} (eq : K → K → Bool) (is_clone : V → V → Type 0) where
   -- The turn of a compute ends, and this was its entry.
   abbrev pub FinishesCompute : handles.Turn K → OpenTurn V → List (Turn K V E) → (List (Turn K V E) → Type 0) → Type 0
   FinishesCompute turn row ts After =

@@ -335,7 +335,7 @@ impl<K: Eq + Drop, V: Clone, E: Drop> TurnTable<K, V, E> {
         ensures copy { IfOk result (λ copy. IfSome (ended_at self.now number) (λ turn.
             IsEndClone V.is_clone turn.end copy)) }
         ensures refused { IfErr result (λ _. IfSome (ended_at self.now number) (λ turn.
-            TakesCopy (Some (end_of turn.end)))) }
+            TakesCopy V.is_infallible (Some (end_of turn.end)))) }
     {
         match self.ended.get(&number) {
             Some(turn) => turn.end.copy(),
@@ -399,7 +399,7 @@ impl<K: Eq + Drop, V: Clone, E: Drop> TurnTable<K, V, E> {
     /// - `OutOfMemory`: cloning what the turn ended with failed.
     pub fn collect(&mut self, ticket: Ticket<K>) -> Result<CollectState<K, V, E>, CollectRefused<K>>
         ensures collects { AtEachChange V.is_clone ticket.key self.old self.new
-            (Collects K.eq V.is_clone ticket result) }
+            (Collects K.eq V.is_clone V.is_infallible ticket result) }
         ensures ticket_back { IfErr result (λ refused. refused.ticket ≡ ticket) }
         ensures unspent { IfOk result (λ told. IfNotYet (λ same. same ≡ ticket) told) }
         ensures key { IfOk result (λ told.
@@ -488,10 +488,11 @@ impl<V: Clone, E: Drop> TurnEnd<V, E> {
     ///
     /// # Errors
     ///
-    /// - `AllocError`: an allocation failed. Only for a value or an error.
+    /// - `AllocError`: an allocation failed. Only for an error, or a value whose clone can fail.
     pub fn copy(&self) -> Result<TurnEnd<V, E>, AllocError>
         ensures copy { IfOk result (IsEndClone V.is_clone self.now) }
-        ensures refused { IfErr result (λ _. TakesCopy (Some (end_of self.now))) }
+        ensures refused { IfErr result (λ _.
+            TakesCopy V.is_infallible (Some (end_of self.now))) }
     {
         Ok(match self {
             TurnEnd::Value(value, replaced) => TurnEnd::Value(value.clone()?, *replaced),

@@ -5,4 +5,4 @@ pub returns-clause-write : goal.returns-clause-write
 returns-clause-write g c settings steps k v at = stores-something settings.max_capacity
 
 pub returns-clause-others : goal.returns-clause-others
-returns-clause-others g c settings steps call other = takes_memory g.K.PartialEq.eq g.V.Clone.is_infallible settings steps call other
+returns-clause-others g c settings steps call other = takes_memory g.K.PartialEq.eq g.V.Clone.is_clone g.V.Clone.is_infallible settings steps call other

@@ -1,4 +1,4 @@
-use Rattle.std.proofs.Common.{suc, ◌-◌, ◌^◌, ◌||◌, ◌≤◌, ◌++◌, min, sym, ap, ◌∙◌, arith}
+use Rattle.std.proofs.Common.{◌||◌, ◌<◌, ◌≤◌, ◌++◌, sym, ap, ◌∙◌, arith}
 use Rattle.moka_expiring_rows.specs.RowDeadlines.{deadlines_in, IsNoted}
 use Rattle.moka_rows.proofs.Callers.{each-added}
 use Rattle.moka_expiring_rows.proofs.Noted.{noted-more, neither, none-there}
@@ -10,7 +10,7 @@ invariant_of-self g c =
     let had = c.args.self.now.has_deadlines in
     let has = had || c.is_some.result in
     let higher : c.args.self.now.top ≤ c.max-self.result = rw c.max-self.ensures (omega arith) in
-    let below : min (suc c.add-number.result) (2 ^ 64 - 1) ≤ c.max-self.result = omega (arith, c.max-self.ensures, c.saturating_add.ensures) in
+    let below : c.add-number.result < c.max-self.result = omega (arith, c.max-self.ensures) in
     let before = noted-more had has c.args.self.now.top c.max-self.result (admitted_in c.args.self.now.rows ++ waiting_in c.args.self.now.rows) (λ none. (neither had c.is_some.result none).0) higher c.args.self.now.noted in
     record {
       listed = λ whole. c.args.self.now.listed whole ∙ ap deadlines_in (sym c.add-number.ensures.admitted);

@@ -1,8 +1,5 @@
 use Rattle.moka_index.proofs.IndexLemmas.{number-within}
 use Rattle.moka_index.proofs.row_index.RowIndex.next_in_chain.Goals as goal
 
-pub link_of-requires : goal.link_of-requires
-link_of-requires c = number-within c.args.self.now.orders c.args.number c.requires
-
 pub next_in_chain-requires : goal.next_in_chain-requires
-next_in_chain-requires c = rw c.link_of.ensures (number-within c.args.self.now.orders c.args.number c.requires)
+next_in_chain-requires c = number-within c.args.self.now.orders c.args.number c.requires

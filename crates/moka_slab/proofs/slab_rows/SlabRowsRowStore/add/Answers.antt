@@ -1,4 +1,5 @@
-use Rattle.std.proofs.Common.{◌+◌, Some, refl, arith}
+use Rattle.std.proofs.Common.{Some, arith}
+use Rattle.moka_index.proofs.Callers.{few-places}
 use Rattle.moka_slab.proofs.RoomLemmas.{has-room, room-taken}
 use Rattle.moka_slab.proofs.TiedLemmas.{fresh-number, puts-update, added-tied, added-fresh, added-admitted, added-waiting}
 use Rattle.moka_slab.proofs.slab_rows.SlabRowsRowStore.add.Goals as goal
@@ -6,9 +7,16 @@ use Rattle.moka_slab.proofs.slab_rows.SlabRowsRowStore.add.Goals as goal
 pub insert_reserved-key-requires : goal.insert_reserved-key-requires
 insert_reserved-key-requires g c = (has-room c.args.self.now.rows c.args.self.now.links c.requires).row
 
+pub number_of-number-requires : goal.number_of-number-requires
+number_of-number-requires g c =
+    let within = (has-room c.args.self.now.rows c.args.self.now.links c.requires).place c.insert_reserved-key.result (omega (arith, c.insert_reserved-key.ensures.key_in_range, c.insert_reserved-key.ensures.capacity)) in
+    let few = few-places c.args.self.now.links in
+    omega (arith, within, few)
+
 pub add-requires-clause-within : goal.add-requires-clause-within
 add-requires-clause-within g c =
-    (has-room c.args.self.now.rows c.args.self.now.links c.requires).place c.insert_reserved-key.result (omega (arith, c.insert_reserved-key.ensures.key_in_range, c.insert_reserved-key.ensures.capacity))
+    rw c.number_of-number.ensures
+    ((has-room c.args.self.now.rows c.args.self.now.links c.requires).place c.insert_reserved-key.result (omega (arith, c.insert_reserved-key.ensures.key_in_range, c.insert_reserved-key.ensures.capacity)))
 
 pub add-requires-clause-room : goal.add-requires-clause-room
 add-requires-clause-room g c = (has-room c.args.self.now.rows c.args.self.now.links c.requires).hash
@@ -19,30 +27,30 @@ returns-clause-room g c =
     c.add.ensures.places c.add.ensures.spare
 
 pub add-requires-clause-absent : goal.add-requires-clause-absent
-add-requires-clause-absent g c = fresh-number c.args.self.now.rows c.args.self.now.links (c.insert_reserved-key.result + 2) c.insert_reserved-key.result c.args.self.now.tied refl c.insert_reserved-key.ensures.was_vacant
+add-requires-clause-absent g c = fresh-number c.args.self.now.rows c.args.self.now.links c.number_of-number.result c.insert_reserved-key.result c.args.self.now.tied c.number_of-number.ensures c.insert_reserved-key.ensures.was_vacant
 
 pub invariant_of-self : goal.invariant_of-self
 invariant_of-self g c = record {
-  tied = added-tied c.args.self.now.rows c.insert_reserved-key.new.self c.args.self.now.links c.add.new.self c.args.self.now.tied (c.insert_reserved-key.result + 2) c.args.row
-      (puts-update c.args.self.now.rows c.insert_reserved-key.new.self (c.insert_reserved-key.result + 2) c.insert_reserved-key.result (Some c.args.row) refl (rw c.new.ensures at c.insert_reserved-key.ensures.updates))
-      (fresh-number c.args.self.now.rows c.args.self.now.links (c.insert_reserved-key.result + 2) c.insert_reserved-key.result c.args.self.now.tied refl c.insert_reserved-key.ensures.was_vacant) c.add.ensures.admitted c.add.ensures.waiting
+  tied = added-tied c.args.self.now.rows c.insert_reserved-key.new.self c.args.self.now.links c.add.new.self c.args.self.now.tied c.number_of-number.result c.args.row
+      (puts-update c.args.self.now.rows c.insert_reserved-key.new.self c.number_of-number.result c.insert_reserved-key.result (Some c.args.row) c.number_of-number.ensures (rw c.new.ensures at c.insert_reserved-key.ensures.updates))
+      (fresh-number c.args.self.now.rows c.args.self.now.links c.number_of-number.result c.insert_reserved-key.result c.args.self.now.tied c.number_of-number.ensures c.insert_reserved-key.ensures.was_vacant) c.add.ensures.admitted c.add.ensures.waiting
       c.add.ensures.hashed c.add.ensures.others;
 }
 
 pub returns-clause-fresh : goal.returns-clause-fresh
 returns-clause-fresh g c =
-    added-fresh c.args.self.now.rows c.insert_reserved-key.new.self c.args.self.now.links c.add.new.self c.args.self.now.tied (c.insert_reserved-key.result + 2) c.args.row
-    (puts-update c.args.self.now.rows c.insert_reserved-key.new.self (c.insert_reserved-key.result + 2) c.insert_reserved-key.result (Some c.args.row) refl (rw c.new.ensures at c.insert_reserved-key.ensures.updates))
-    (fresh-number c.args.self.now.rows c.args.self.now.links (c.insert_reserved-key.result + 2) c.insert_reserved-key.result c.args.self.now.tied refl c.insert_reserved-key.ensures.was_vacant) c.add.ensures.admitted c.add.ensures.waiting
+    added-fresh c.args.self.now.rows c.insert_reserved-key.new.self c.args.self.now.links c.add.new.self c.args.self.now.tied c.number_of-number.result c.args.row
+    (puts-update c.args.self.now.rows c.insert_reserved-key.new.self c.number_of-number.result c.insert_reserved-key.result (Some c.args.row) c.number_of-number.ensures (rw c.new.ensures at c.insert_reserved-key.ensures.updates))
+    (fresh-number c.args.self.now.rows c.args.self.now.links c.number_of-number.result c.insert_reserved-key.result c.args.self.now.tied c.number_of-number.ensures c.insert_reserved-key.ensures.was_vacant) c.add.ensures.admitted c.add.ensures.waiting
 
 pub returns-clause-waiting : goal.returns-clause-waiting
 returns-clause-waiting g c =
-    added-waiting c.args.self.now.rows c.insert_reserved-key.new.self c.args.self.now.links c.add.new.self c.args.self.now.tied (c.insert_reserved-key.result + 2) c.args.row
-    (puts-update c.args.self.now.rows c.insert_reserved-key.new.self (c.insert_reserved-key.result + 2) c.insert_reserved-key.result (Some c.args.row) refl (rw c.new.ensures at c.insert_reserved-key.ensures.updates))
-    (fresh-number c.args.self.now.rows c.args.self.now.links (c.insert_reserved-key.result + 2) c.insert_reserved-key.result c.args.self.now.tied refl c.insert_reserved-key.ensures.was_vacant) c.add.ensures.admitted c.add.ensures.waiting
+    added-waiting c.args.self.now.rows c.insert_reserved-key.new.self c.args.self.now.links c.add.new.self c.args.self.now.tied c.number_of-number.result c.args.row
+    (puts-update c.args.self.now.rows c.insert_reserved-key.new.self c.number_of-number.result c.insert_reserved-key.result (Some c.args.row) c.number_of-number.ensures (rw c.new.ensures at c.insert_reserved-key.ensures.updates))
+    (fresh-number c.args.self.now.rows c.args.self.now.links c.number_of-number.result c.insert_reserved-key.result c.args.self.now.tied c.number_of-number.ensures c.insert_reserved-key.ensures.was_vacant) c.add.ensures.admitted c.add.ensures.waiting
 
 pub returns-clause-admitted : goal.returns-clause-admitted
 returns-clause-admitted g c =
-    added-admitted c.args.self.now.rows c.insert_reserved-key.new.self c.args.self.now.links c.add.new.self c.args.self.now.tied (c.insert_reserved-key.result + 2) c.args.row
-    (puts-update c.args.self.now.rows c.insert_reserved-key.new.self (c.insert_reserved-key.result + 2) c.insert_reserved-key.result (Some c.args.row) refl (rw c.new.ensures at c.insert_reserved-key.ensures.updates))
-    (fresh-number c.args.self.now.rows c.args.self.now.links (c.insert_reserved-key.result + 2) c.insert_reserved-key.result c.args.self.now.tied refl c.insert_reserved-key.ensures.was_vacant) c.add.ensures.admitted c.add.ensures.waiting
+    added-admitted c.args.self.now.rows c.insert_reserved-key.new.self c.args.self.now.links c.add.new.self c.args.self.now.tied c.number_of-number.result c.args.row
+    (puts-update c.args.self.now.rows c.insert_reserved-key.new.self c.number_of-number.result c.insert_reserved-key.result (Some c.args.row) c.number_of-number.ensures (rw c.new.ensures at c.insert_reserved-key.ensures.updates))
+    (fresh-number c.args.self.now.rows c.args.self.now.links c.number_of-number.result c.insert_reserved-key.result c.args.self.now.tied c.number_of-number.ensures c.insert_reserved-key.ensures.was_vacant) c.add.ensures.admitted c.add.ensures.waiting

@@ -51,7 +51,7 @@ returns-clause-stands g c given steps stands =
     let keeps = table-keeps eq laws g.V.Clone.is_clone hash_of c.hash-hash.ensures.alike s.turns.opened.entries s.turns.ended.entries (turns steps) there.turns in
     let it = c.collect.ensures.collects hash_of (turns steps) c.hash-hash.ensures.alike hashed (sound-turns eq laws given steps stands.legal) keeps g.met.C.CacheTypes.copies_compose in
     rw (← name) (rw c.in-Ok.is at (collect-stands eq given _ _ _ steps there (ticket_name c.with_hash.result) _
-    (λ ts. table-holds eq laws g.V.Clone.is_clone hash_of c.hash-hash.ensures.alike c.collect.new.self.opened.entries c.collect.new.self.ended.entries ts) _ refl c.collect.result it
+    (λ ts. table-holds eq laws g.V.Clone.is_clone hash_of c.hash-hash.ensures.alike c.collect.new.self.opened.entries c.collect.new.self.ended.entries ts) g.V.Clone.is_infallible _ refl c.collect.result it
     (λ unspent. same-turns hash_of _ _ _ _ (c.collect.ensures.unchanged unspent).0 (c.collect.ensures.unchanged unspent).1)))
 
 pub returns-clause-unspent : goal.returns-clause-unspent

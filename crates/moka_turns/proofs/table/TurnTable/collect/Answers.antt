@@ -35,7 +35,7 @@ returns-in_default-clause-collects g c hash_of ts respects hashed sound keeps co
     let row = passes-there (is_ended_for eq laws copies hash_of respects ts sound _ _ keeps q hashed number) _ _ (its-kinds eq q _ _ c.is_ended_for.ensures) c.if-not-is_ended_for.false in
     let named = kept eq laws copies hash_of respects ts sound _ _ keeps q hashed number row.0 row.1 row.2 in
     let it = the_ended eq laws copies hash_of respects ts sound _ _ keeps q hashed number row.0 row.1 in
-    rw named (refl, takes-alike copies _ _ it.2.end (given-there _ _ row.0 row.1 c.in_default.ensures.refused))
+    rw named (refl, takes-alike copies g.V.Clone.is_infallible _ _ it.2.end (given-there _ _ row.0 row.1 c.in_default.ensures.refused))
 
 pub returns-clause-collects : goal.returns-clause-collects
 returns-clause-collects g c hash_of ts respects hashed sound keeps compose =
