@@ -1,4 +1,4 @@
-//! The calls of selectors, each in the segment of its key, and the older names of two loaders.
+//! The calls of selectors, each in the segment of its key.
 use crate::forms::{KEYS, Numbers, open_cache, stands_in, stands_nowhere};
 use moka::Entry;
 use moka::ops::compute::{CompResult, Op};
@@ -63,17 +63,6 @@ fn call_fails(cache: &mut Numbers, key: u64) -> bool {
     matches!(&result, Ok(Err(7)))
 }
 
-fn call_older(cache: &mut Numbers, key: u64, value: u64) -> Result<u64, Refused> {
-    cache.get_or_insert_with(key, move || value, 0)
-}
-
-fn call_older_try(cache: &mut Numbers, key: u64, given: Result<u64, u64>) -> Option<u64> {
-    match cache.get_or_try_insert_with(key, move || given, 0) {
-        Ok(Ok(value)) => Some(value),
-        _ => None,
-    }
-}
-
 /// A value is inserted once, in the key's segment, by each call that inserts.
 #[test]
 fn a_selector_inserts_in_the_keys_segment(rt: HostRuntime) -> Result<(), Fail> {
@@ -131,21 +120,4 @@ fn computes_in_its_segment(rt: &impl Abort, cache: &mut Numbers) {
     stands_in(rt, cache, KEYS[2], 2);
     assert!(rt; call_remove(cache, KEYS[2]));
     stands_nowhere(rt, cache, KEYS[2]);
-}
-
-/// The older names of two loaders do what the newer ones do.
-#[test]
-fn older_names_load(rt: HostRuntime) -> Result<(), Fail> {
-    let mut cache = open_cache(rt.alloc())?;
-    load_by_older_names(&rt, &mut cache);
-    drop(cache);
-    Ok(())
-}
-
-fn load_by_older_names(rt: &impl Abort, cache: &mut Numbers) {
-    assert_eq!(rt; call_older(cache, KEYS[1], 5), Ok(5));
-    assert_eq!(rt; call_older(cache, KEYS[1], 6), Ok(5));
-    assert_eq!(rt; call_older_try(cache, KEYS[2], Err(7)), None);
-    assert_eq!(rt; call_older_try(cache, KEYS[2], Ok(8)), Some(8));
-    stands_in(rt, cache, KEYS[2], 2);
 }
