@@ -1,9 +1,9 @@
 //! The plain row store: two lists, searched from the front.
-ghost use Rattle.std.specs.Prelude.{◌≡◌, ◌+◌, ◌-◌, ◌<◌, ◌≤◌, ◌^◌};
-ghost use Rattle.std.specs.Prelude.{[], ◌∷◌, ◌++◌, length, drop, vec_len, vec_capacity};
-ghost use Rattle.std.specs.Prelude.{IsSome, IfNone, OnSome, MatchOption};
-ghost use Rattle.moka_rows.specs.Rows.{row_under, is_row_of, first_number, expired_at};
-ghost use Rattle.moka_rows.specs.Numbers.{number_where, IsNumbered, IsPlaceOf, IsPlaceIn};
+ghost use Rattle.std.specs.Prelude.{◌≡◌, ◌+◌, ◌<◌, ◌≤◌};
+ghost use Rattle.std.specs.Prelude.{[], ◌∷◌, ◌++◌, drop, vec_len, vec_capacity};
+ghost use Rattle.std.specs.Prelude.{IsSome, MatchOption};
+ghost use Rattle.moka_rows.specs.Rows.{row_under, first_number, expired_at};
+ghost use Rattle.moka_rows.specs.Numbers.{IsNumbered, IsPlaceOf, IsPlaceIn};
 
 use crate::counted_row::{CountedList, CountedRow};
 use crate::lookup::find_row;

@@ -1,20 +1,22 @@
 //! The table of turns: the open ones by kind and key, and the ended ones with unspent tickets by
 //! number.
 ghost use Rattle.std.specs.Prelude.{◌≡◌, ℕ, ◌-◌, ◌<◌, ◌≤◌, ◌^◌, ◌==◌, false, Some, None};
-ghost use Rattle.std.specs.Prelude.{IsSome, IfSome, IfNone, IfOk, IfErr, OnOk, MatchOption, option_copied, if◌then◌else◌};
+ghost use Rattle.std.specs.Prelude.{IsSome, IfSome, IfNone, IfOk, IfErr, OnOk, MatchOption, is_some, option_copied, if◌then◌else◌};
 ghost use Rattle.indexmap.specs.IndexMap.{spare, index_map_len};
 ghost use Rattle.std.specs.Arc.{arc_value};
 ghost use Rattle.moka_model.specs.Calls.{IsCopyOf};
 ghost use Rattle.moka_turns.specs.Represents.{end_of};
 ghost use Rattle.moka_turns.specs.CollectState.{IfNotYet, IfEnded, IsUnspent, IsEndClone, TakesCopy};
 ghost use Rattle.moka_turns.specs.Open.{IsOpenAs, IsOpenWith, IsOpenFor};
+ghost use Rattle.moka_turns.specs.TurnKey.{IsKeyOf};
 ghost use Rattle.moka_turns.specs.Table.{is_awaited_as, is_of, one_less, retained_ended};
 
 use crate::discards::TurnDiscards;
 use crate::handles::{CollectRefused, Ticket, Turn};
-use crate::turn_key::TurnKey;
+use crate::turn_key::{TurnKey, TurnQuery};
 use indexmap::IndexMap;
 use moka_index::identity_hasher::IdentityHasher;
+use moka_model::turns::Kind;
 use moka_policy::policy::Refused;
 use std::alloc::{AllocError, Global};
 use std::hash::BuildHasherDefault;
@@ -106,6 +108,17 @@ impl<K: Eq + Drop, V: Drop, E: Drop> TurnTable<K, V, E> {
         ensures { option_copied result ≡ open_at self.now key.now }
     {
         self.opened.get(key)
+    }
+
+    /// Returns whether a turn is open whose kind and key are these. `hash` has to be the hash with
+    /// which its key was given.
+    ///
+    /// Needs no shared key, and so does not allocate.
+    pub fn has_open(&self, hash: u64, kind: Kind, key: &K) -> bool
+        ensures { (own : TurnKey K) → IsKeyOf hash kind key.now own
+            → result ≡ is_some (open_at self.now own) }
+    {
+        self.opened.contains_key(&TurnQuery { hash, kind, key })
     }
 
     /// Returns the ended turn with this number, if there is one.
