@@ -24,6 +24,8 @@ mod on_segments;
 #[cfg(test)]
 mod on_state;
 #[cfg(test)]
+mod open_turns;
+#[cfg(test)]
 mod player;
 #[cfg(test)]
 mod refusals;

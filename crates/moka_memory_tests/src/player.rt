@@ -96,7 +96,7 @@ impl At {
 }
 
 /// Returns a flag that is not set. Retries once if the allocation fails.
-fn new_flag(alloc: Global) -> Result<Asked, AllocError> {
+pub(crate) fn new_flag(alloc: Global) -> Result<Asked, AllocError> {
     match Rc::new(alloc, Cell::new(false)) {
         Ok(asked) => Ok(asked),
         Err(_) => Ok(Rc::new(alloc, Cell::new(false))?),

@@ -1,7 +1,6 @@
 -- A loader on the state of a key's segment is that loader on all segments.
 use Rattle.std.proofs.Common.{◌≡◌, ℕ, ◌==◌, Bool, true, false, Option, Some, None, Result, Ok, Err, List, ◌∷◌, refl, sym, ap, ◌∙◌, subst, fold, set}
 use Rattle.moka_policy.specs.declared.policy.Refused.{Refused}
-use Rattle.moka_policy.specs.declared.policy.Refused.TheVariants as causes
 use Rattle.moka_model.specs.declared.turns.Kind.{Kind}
 use Rattle.moka_model.specs.declared.turns.Kind.TheVariants.{With, Optionally, Try, Compute}
 use Rattle.moka_model.specs.declared.turns.Op.{Op}
@@ -11,18 +10,18 @@ use Rattle.moka_model.specs.Lives.{Behaviour, Settings, Write}
 use Rattle.moka_model.specs.Events.{Event}
 use Rattle.moka_model.specs.Steps.{AcceptedStep, events_in, turns}
 use Rattle.moka_model.specs.Turns.{Name, Turn, found, is_open_for}
-use Rattle.moka_model.specs.Calls.{Call, Entry, Reply, Abandon, Begin, BeginCompute, Finish, Run, IsWait, IfReplied, IsCopiedReply, acceptable, accepted, after, begun, begun_compute, live_at}
+use Rattle.moka_model.specs.Calls.{Call, Entry, Reply, Abandon, Begin, BeginCompute, Finish, Run, IsCopiedReply, acceptable, after, begun, begun_compute, live_at}
 use Rattle.moka_model.specs.StandsFor.{StandsFor}
 use Rattle.moka_expiration.specs.Behaviour.{BehaviourData, hash_by}
 use Rattle.moka_expiration.specs.StateData.{StateData, view_by}
 use Rattle.moka_state.specs.ComputeForms.{EndsCompute, IsComputeForm}
 use Rattle.moka_state.specs.Forms.{EndsTurn, IsForm, IfRefusedUnasked, end_call}
-use Rattle.moka_state.specs.Given.{Gives}
+use Rattle.moka_state.specs.Given.{FailsAtOnce, Gives}
 use Rattle.moka_segment_model.specs.Segments.{SegmentedSettings, One, segment_of_place, segment_of, segment_of_key, steps_in, place_of, share_settings, AllStandFor, AtEachList, key_in}
 use Rattle.moka_segment_model.proofs.Callers.{routed, eqb_refl, stand-here, steps-here, steps-apart}
 use Rattle.moka_segmented.specs.SegmentedData.{SegmentedData, segmented_settings_by, segmented_view_by}
 use Rattle.moka_segmented.specs.Forms.{EndsComputeIn, EndsTurnIn, IsComputeFormIn, IsFormIn}
-use Rattle.moka_segmented.specs.Turns.{GivesIn}
+use Rattle.moka_segmented.specs.Turns.{FailsAtOnceIn, GivesIn}
 use Rattle.moka_segmented.proofs.Routed.{Routing, here-view, index-is, routed-stands}
 
 -- what holds for a loader that fails before its closure runs follows from what held before
@@ -103,6 +102,9 @@ module _ {K V H W X F : Type 0} (E : Type 0) (eq : K → K → Bool) (behaviour 
     begins : (result : Result (Reply K V E) Refused) → Gives eq is_clone is_infallible share steps the_begin result → GivesIn eq is_clone is_infallible given calls the_begin result
     begins result = said-in E eq given index k at (λ those. Gives eq is_clone is_infallible share those the_begin result) calls the_begin keyed
 
+    fails : (cause : Refused) → FailsAtOnce eq is_clone is_infallible share steps the_begin cause → FailsAtOnceIn eq is_clone is_infallible given calls the_begin cause
+    fails cause = said-in E eq given index k at (λ those. FailsAtOnce eq is_clone is_infallible share those the_begin cause) calls the_begin keyed
+
     -- after the begin
     first : steps_in E eq given (the_begin ∷ calls) index ≡ after eq share the_begin steps
     first = steps-of-key E eq given index k at calls the_begin keyed
@@ -131,12 +133,7 @@ module _ {K V H W X F : Type 0} (E : Type 0) (eq : K → K → Bool) (behaviour 
 
     form-in : (o : Option (Outcome V E)) (result : Result (Reply K V E) Refused) → IsForm eq is_clone is_infallible share steps the_begin now o result (StandsNew share) → IsFormIn eq is_clone is_infallible given calls the_begin now o result (StandNew given)
     form-in None (Ok a) is = (is.0, begins (Ok a) is.1, begun-stands is.2)
-    form-in None (Err causes.TurnIsOpen) is = said-in E eq given index k at (λ those. IfReplied IsWait (accepted eq share those the_begin)) calls the_begin keyed is
-    form-in None (Err causes.OutOfMemory) is = begins (Err causes.OutOfMemory) is
-    form-in None (Err causes.NumbersUsedUp) is = begins (Err causes.NumbersUsedUp) is
-    form-in None (Err causes.UnknownTurn) is = begins (Err causes.UnknownTurn) is
-    form-in None (Err causes.UnknownTicket) is = begins (Err causes.UnknownTicket) is
-    form-in None (Err causes.WaitsAbandoned) is = begins (Err causes.WaitsAbandoned) is
+    form-in None (Err cause) is = fails cause is
     form-in (Some outcome) result is = (is.0, begins (Ok (Run is.0 None)) is.1, ends is.0 outcome result (opens share steps is.0 None is.1) is.2)
 
     -- a compute's turn ends, or is abandoned
@@ -148,12 +145,7 @@ module _ {K V H W X F : Type 0} (E : Type 0) (eq : K → K → Bool) (behaviour 
     compute-in : (shown : Option (Entry K V)) (o : Option (Option (Op V))) (result : Result (Reply K V E) Refused) → IsComputeForm eq is_clone is_infallible share steps the_begin now shown o result (StandsNew share)
         → IsComputeFormIn eq is_clone is_infallible given calls the_begin now shown o result (StandNew given)
     compute-in shown None (Ok a) is = is
-    compute-in shown None (Err causes.TurnIsOpen) is = said-in E eq given index k at (λ those. IfReplied IsWait (accepted eq share those the_begin)) calls the_begin keyed is
-    compute-in shown None (Err causes.OutOfMemory) is = begins (Err causes.OutOfMemory) is
-    compute-in shown None (Err causes.NumbersUsedUp) is = begins (Err causes.NumbersUsedUp) is
-    compute-in shown None (Err causes.UnknownTurn) is = begins (Err causes.UnknownTurn) is
-    compute-in shown None (Err causes.UnknownTicket) is = begins (Err causes.UnknownTicket) is
-    compute-in shown None (Err causes.WaitsAbandoned) is = begins (Err causes.WaitsAbandoned) is
+    compute-in shown None (Err cause) is = fails cause is
     compute-in shown (Some op) result is = (is.0, begins (Ok (Run is.0 shown)) is.1, computed is.0 op result (opens share steps is.0 shown is.1) is.2)
 
   -- a loader on the state is that loader on all segments

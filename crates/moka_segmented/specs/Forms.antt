@@ -1,15 +1,14 @@
 -- What a loader and a compute do if there are several segments.
 use Rattle.std.specs.Prelude.{◌≡◌, ℕ, Bool, Option, Some, None, List, ◌∷◌, Result, Ok, Err}
 use Rattle.moka_policy.specs.declared.policy.Refused.{Refused}
-use Rattle.moka_policy.specs.declared.policy.Refused.TheVariants as causes
 use Rattle.moka_model.specs.declared.turns.Op.{Op}
 use Rattle.moka_model.specs.declared.turns.Outcome.{Outcome}
 use Rattle.moka_model.specs.declared.turns.Outcome.TheVariants as outcomes
 use Rattle.moka_model.specs.Turns.{Name}
-use Rattle.moka_model.specs.Calls.{Call, Entry, Reply, Finish, Abandon, Done, Run, IsWait, IfReplied, accepted}
+use Rattle.moka_model.specs.Calls.{Call, Entry, Reply, Finish, Abandon, Done, Run}
 use Rattle.moka_state.specs.Forms.{IsEntered, end_call}
-use Rattle.moka_segment_model.specs.Segments.{SegmentedSettings, segment_of_place, place_of, share_settings, steps_in}
-use Rattle.moka_segmented.specs.Turns.{GivesIn}
+use Rattle.moka_segment_model.specs.Segments.{SegmentedSettings}
+use Rattle.moka_segmented.specs.Turns.{FailsAtOnceIn, GivesIn}
 
 module _ {K V E : Type 0} (eq : K → K → Bool) (is_clone : V → V → Type 0) (is_infallible : V → Type 0)
     (settings : SegmentedSettings K V) where
@@ -28,11 +27,7 @@ module _ {K V E : Type 0} (eq : K → K → Bool) (is_clone : V → V → Type 0
       (List (Call K V E) → Type 0) → Type 0
   IsFormIn calls begin now None (Ok reply) Stand =
       IsEntered reply × GivesIn eq is_clone is_infallible settings calls begin (Ok reply) × Stand (begin ∷ calls)
-  IsFormIn calls begin now None (Err causes.TurnIsOpen) Stand =
-      IfReplied IsWait
-      (accepted eq (share_settings settings)
-      (steps_in E eq settings calls (segment_of_place (place_of E eq settings calls begin))) begin)
-  IsFormIn calls begin now None (Err cause) Stand = GivesIn eq is_clone is_infallible settings calls begin (Err cause)
+  IsFormIn calls begin now None (Err cause) Stand = FailsAtOnceIn eq is_clone is_infallible settings calls begin cause
   IsFormIn calls begin now (Some outcome) reply Stand =
       (name : Name K) × GivesIn eq is_clone is_infallible settings calls begin (Ok (Run name None))
       × EndsTurnIn (begin ∷ calls) name outcome now reply Stand
@@ -49,11 +44,8 @@ module _ {K V E : Type 0} (eq : K → K → Bool) (is_clone : V → V → Type 0
   abbrev pub IsComputeFormIn : List (Call K V E) → Call K V E → ℕ → Option (Entry K V) → Option (Option (Op V)) →
       Result (Reply K V E) Refused → (List (Call K V E) → Type 0) → Type 0
   IsComputeFormIn calls begin now shown None (Ok reply) Stand = ⊥
-  IsComputeFormIn calls begin now shown None (Err causes.TurnIsOpen) Stand =
-      IfReplied IsWait
-      (accepted eq (share_settings settings)
-      (steps_in E eq settings calls (segment_of_place (place_of E eq settings calls begin))) begin)
-  IsComputeFormIn calls begin now shown None (Err cause) Stand = GivesIn eq is_clone is_infallible settings calls begin (Err cause)
+  IsComputeFormIn calls begin now shown None (Err cause) Stand =
+      FailsAtOnceIn eq is_clone is_infallible settings calls begin cause
   IsComputeFormIn calls begin now shown (Some said) reply Stand =
       (name : Name K) × GivesIn eq is_clone is_infallible settings calls begin (Ok (Run name shown))
       × EndsComputeIn (begin ∷ calls) name said now reply Stand

@@ -7,7 +7,7 @@ use Rattle.moka_model.specs.Calls.{Call, Reply}
 use Rattle.moka_model.specs.Lives.{Settings}
 use Rattle.moka_expiration.specs.StateData.{SettingsData, StateData}
 use Rattle.moka_state.specs.BegunOf.{BegunOf}
-use Rattle.moka_state.specs.Given.{Gives}
+use Rattle.moka_state.specs.Given.{FailsAtOnce, Gives}
 use Rattle.moka_state.specs.Begin.{GivesBegun, TakesLive}
 use Rattle.moka_segment_model.specs.Segments.{SegmentedSettings, segment_of_place, place_of, share_settings, steps_in}
 use Rattle.moka_segmented.specs.SegmentedData.{SegmentedData}
@@ -27,6 +27,12 @@ module _ {K V E : Type 0} (eq : K → K → Bool) (is_clone : V → V → Type 0
   GivesIn result =
       Gives eq is_clone is_infallible (share_settings settings)
       (steps_in E eq settings calls (segment_of_place (place_of E eq settings calls call))) call result
+
+  -- What a begin that never waits fails with so.
+  abbrev pub FailsAtOnceIn : Refused → Type 0
+  FailsAtOnceIn cause =
+      FailsAtOnce eq is_clone is_infallible (share_settings settings)
+      (steps_in E eq settings calls (segment_of_place (place_of E eq settings calls call))) call cause
 
   -- What a begin gives so, with a flag for whether it may wait.
   abbrev pub GivesBegunIn : Bool → Result (BegunOf K V) Refused → Type 0

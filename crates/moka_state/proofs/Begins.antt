@@ -1,6 +1,6 @@
 -- The begin of a loader by the specification, and what its events make of a state's view, beside a hit or a miss.
 use Rattle.std.proofs.Common.{◌≡◌, ◌≢◌, ℕ, ◌+◌, ◌<◌, ◌^◌, ◌==◌, max, not, ◌&&◌, Bool, true, false, cond, Option, Some, None, IfSome, List, [], ◌∷◌, ◌++◌, refl, sym, ap, ◌∙◌, subst, inl, inr, arith, is_none}
-use Rattle.std.specs.Prelude.{Result, Ok, Err}
+use Rattle.std.specs.Prelude.{Result, Ok, Err, IsSome, is_some}
 use Rattle.std.specs.Arc.{arc_value}
 use Rattle.std.specs.Cmp.{IsEquivalence}
 use Rattle.std.specs.Fn.{Mut}
@@ -41,6 +41,7 @@ use Rattle.moka_state.specs.BegunOf.{BegunOf}
 use Rattle.moka_state.specs.Begin.{IsSaidOf, GivesBegun}
 use Rattle.moka_state.specs.Given.{Gives}
 use Rattle.moka_housekeeper.specs.Hit.{UsesAt}
+use Rattle.moka_state.proofs.AtOnce.{fails-to-begin}
 use Rattle.moka_state.proofs.Becoming.{HasNoted, becomes-missed}
 use Rattle.moka_state.proofs.Finds.{found-live, found-hit, found-none}
 use Rattle.moka_state.proofs.Maintained.{HasLives}
@@ -204,6 +205,40 @@ module _ {K V E : Type 0} (eq : K → K → Bool) (is_clone : V → V → Type 0
   pub after-found : (w : Write K V) → acceptable said (live_at eq settings k at h) ≡ Some w → after eq settings (Begin k kind said at) steps ≡ (record { events = look_event said k at ∷ []; move = None }) ∷ steps
   after-found w is = ap (λ a. with_step a steps) (accepted-is (Some w) is opened_here refl)
 
+  -- a begin that finds a live value that is acceptable does not wait, and may fail to clone it
+  pub found-memory : (may_wait : Bool) → IsSome (acceptable said (live_at eq settings k at h)) → GivesHere may_wait (Err causes.OutOfMemory)
+  found-memory may_wait there = go (acceptable said (live_at eq settings k at h)) refl there
+    where
+      go : (o : Option (Write K V)) → acceptable said (live_at eq settings k at h) ≡ o → IsSome o → GivesHere may_wait (Err causes.OutOfMemory)
+      go None is some = cc
+      go (Some w) is some =
+          fails-to-begin eq is_clone is_infallible settings steps (Begin k kind said at) may_wait causes.OutOfMemory (tt, λ no. absurd no)
+          (λ waits. subst (IfReplied IsWait) (accepted-is (Some w) is opened_here refl) waits)
+
+  module _ (none : acceptable said (live_at eq settings k at h) ≡ None) where
+    -- else it waits exactly where a turn is open
+    closed-waits-not : opened_here ≡ None → ¬ (IfReplied IsWait (accepted eq settings steps (Begin k kind said at)))
+    closed-waits-not opened waits = subst (IfReplied IsWait) (accepted-is None none None opened) waits
+
+    open-waits : (t : Turn K V E) → opened_here ≡ Some t → IfReplied IsWait (accepted eq settings steps (Begin k kind said at))
+    open-waits t opened = subst (IfReplied IsWait) (sym (accepted-is None none (Some t) opened)) tt
+
+    pub refuses-open : (may_wait : Bool) → true ≡ (not may_wait && is_some opened_here) → GivesHere may_wait (Err causes.TurnIsOpen)
+    refuses-open true told = cc
+    refuses-open false told = go opened_here refl told
+      where
+        go : (o : Option (Turn K V E)) → opened_here ≡ o → true ≡ is_some o → GivesHere false (Err causes.TurnIsOpen)
+        go None opened some = cc
+        go (Some t) opened some = open-waits t opened
+
+    pub refuses-memory : (may_wait : Bool) → false ≡ (not may_wait && is_some opened_here) → GivesHere may_wait (Err causes.OutOfMemory)
+    refuses-memory true told = (tt, λ no. absurd no)
+    refuses-memory false told = go opened_here refl told
+      where
+        go : (o : Option (Turn K V E)) → opened_here ≡ o → false ≡ is_some o → GivesHere false (Err causes.OutOfMemory)
+        go None opened told = (closed-waits-not opened, (tt, λ counts. absurd counts))
+        go (Some t) opened told = cc
+
   module _ (none : acceptable said (live_at eq settings k at h) ≡ None) (apart : AreApart (turns steps)) where
     abbrev waits : Turn K V E → Accepted K V E
     waits t = begun eq settings h k kind said at None (Some t)
@@ -240,20 +275,25 @@ module _ {K V E : Type 0} (eq : K → K → Bool) (is_clone : V → V → Type 0
     -- It fails if no sequence number is left, if it may not wait for the turn, or with `OutOfMemory`.
     pub gives-refused : (hash_of : K → ℕ) (opened_now : TurnKey K → Option (OpenTurn V)) (ended_now : ℕ → Option (EndedTurn K V E)) (q : TurnKey K) (number : ℕ) (may_wait : Bool) (o : Option (Turn K V E)) → opened_here ≡ o → number ≡ next_number settings h → (cause : Refused)
         → IsBegun (λ after. Represents eq is_clone hash_of after opened_now ended_now) q number may_wait (turns steps) o (Err cause) → GivesHere may_wait (Err cause)
-    gives-refused hash_of opened_now ended_now q number may_wait None opened counted causes.OutOfMemory begins = (tt, λ no. absurd no)
+    gives-refused hash_of opened_now ended_now q number may_wait None opened counted causes.OutOfMemory begins =
+        fails-to-begin eq is_clone is_infallible settings steps (Begin k kind said at) may_wait causes.OutOfMemory (tt, λ no. absurd no) (closed-waits-not none opened)
     gives-refused hash_of opened_now ended_now q number may_wait None opened counted causes.NumbersUsedUp begins =
-        subst (Rattle.moka_model.specs.Calls.WantsNumber (next_number settings h) (turns steps)) (sym (accepted-is None none None opened)) (omega arith, sym counted ∙ begins)
+        fails-to-begin eq is_clone is_infallible settings steps (Begin k kind said at) may_wait causes.NumbersUsedUp
+        (subst (Rattle.moka_model.specs.Calls.WantsNumber (next_number settings h) (turns steps)) (sym (accepted-is None none None opened)) (omega arith, sym counted ∙ begins))
+        (closed-waits-not none opened)
     gives-refused hash_of opened_now ended_now q number may_wait None opened counted causes.UnknownTurn begins = absurd begins
     gives-refused hash_of opened_now ended_now q number may_wait None opened counted causes.UnknownTicket begins = absurd begins
     gives-refused hash_of opened_now ended_now q number may_wait None opened counted causes.TurnIsOpen begins = absurd begins
     gives-refused hash_of opened_now ended_now q number may_wait None opened counted causes.WaitsAbandoned begins = absurd begins
     gives-refused hash_of opened_now ended_now q number may_wait (Some t) opened counted causes.OutOfMemory begins = absurd begins
-    gives-refused hash_of opened_now ended_now q number may_wait (Some t) opened counted causes.NumbersUsedUp begins =
+    gives-refused hash_of opened_now ended_now q number false (Some t) opened counted causes.NumbersUsedUp begins = let no = begins.0 in cc
+    gives-refused hash_of opened_now ended_now q number true (Some t) opened counted causes.NumbersUsedUp begins =
         subst (Rattle.moka_model.specs.Calls.WantsNumber (next_number settings h) (turns steps)) (sym (accepted-is None none (Some t) opened)) (t, full t opened, begins.1)
     gives-refused hash_of opened_now ended_now q number may_wait (Some t) opened counted causes.UnknownTurn begins = absurd begins
     gives-refused hash_of opened_now ended_now q number may_wait (Some t) opened counted causes.UnknownTicket begins = absurd begins
     gives-refused hash_of opened_now ended_now q number may_wait (Some t) opened counted causes.WaitsAbandoned begins = absurd begins
-    gives-refused hash_of opened_now ended_now q number may_wait (Some t) opened counted causes.TurnIsOpen begins = (begins, subst (IfReplied IsWait) (sym (accepted-is None none (Some t) opened)) tt)
+    gives-refused hash_of opened_now ended_now q number true (Some t) opened counted causes.TurnIsOpen begins = let no = begins in cc
+    gives-refused hash_of opened_now ended_now q number false (Some t) opened counted causes.TurnIsOpen begins = open-waits none t opened
 
 -- what a begin in the table of turns says that returns a ticket
 pub waits-told : {K V E : Type 0} (eq : K → K → Bool) (is_clone : V → V → Type 0) (hash_of : K → ℕ) (opened_now : TurnKey K → Option (OpenTurn V)) (ended_now : ℕ → Option (EndedTurn K V E)) (q : TurnKey K) (number : ℕ) (may_wait : Bool) (ts : List (Turn K V E)) (o : Option (Turn K V E)) (ticket : Ticket K) → IsBegun (λ after. Represents eq is_clone hash_of after opened_now ended_now) q number may_wait ts o (Ok (begun_turns.Wait ticket))

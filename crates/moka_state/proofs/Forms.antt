@@ -16,23 +16,11 @@ use Rattle.moka_model.specs.Turns.{Name, Turn, Opened, opening, fits, found, sam
 use Rattle.moka_model.specs.Calls.{Call, Accepted, Begin, Finish, Abandon, Run, acceptable, accepted, after, begun, live_at, new_name, with_step}
 use Rattle.moka_model.specs.Calls as calls
 use Rattle.moka_model.specs.StandsFor.{WholeView, StandsFor, IsReplyOf}
-use Rattle.moka_state.specs.Begin.{GivesBegun, IsSaidOf}
-use Rattle.moka_state.specs.Forms.{IsForm}
+use Rattle.moka_state.specs.Begin.{IsSaidOf}
 use Rattle.moka_state.specs.Given.{Gives, of_done}
 use Rattle.moka_state.proofs.Begins.{begun-initializer}
 use Rattle.moka_state.proofs.Finishes.{finish-memory}
 use Rattle.moka_state.proofs.Turns.{no-less}
-
-module _ {K V E : Type 0} (eq : K → K → Bool) (is_clone : V → V → Type 0) (is_infallible : V → Type 0) (settings : Settings K V) (steps : List (AcceptedStep K V E)) (Stands : List (AcceptedStep K V E) → Type 0) where
-  -- a loader whose begin fails
-  pub form-refused : (k : K) (kind : Kind) (said : Option Bool) (now : ℕ) (cause : Refused) → GivesBegun eq is_clone is_infallible settings steps (Begin k kind said now) false (Err cause)
-      → IsForm eq is_clone is_infallible settings steps (Begin k kind said now) now None (Err cause) Stands
-  form-refused k kind said now causes.OutOfMemory gives = gives
-  form-refused k kind said now causes.NumbersUsedUp gives = gives
-  form-refused k kind said now causes.UnknownTurn gives = gives
-  form-refused k kind said now causes.UnknownTicket gives = gives
-  form-refused k kind said now causes.TurnIsOpen gives = gives.1
-  form-refused k kind said now causes.WaitsAbandoned gives = gives
 
 -- what a state stands for after an abandon, be its turn known or not
 pub abandon-stands : {K V E : Type 0} (eq : K → K → Bool) (is_clone : V → V → Type 0) (is_infallible : V → Type 0) (settings : Settings K V) (steps : List (AcceptedStep K V E)) (view : WholeView K V E)

@@ -1,5 +1,6 @@
 mod Scans
 pub mod Alike
+pub mod AtOnce
 pub mod Becoming
 pub mod Begins
 pub mod Collects
@@ -21,6 +22,7 @@ pub mod OrInserts
 pub mod Orders
 pub mod Removing
 pub mod Replied
+pub mod Results
 pub mod Runs
 pub mod Sound
 pub mod Takes

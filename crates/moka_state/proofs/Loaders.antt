@@ -1,12 +1,10 @@
 -- What holds of the results of loaders and of their closures, by cases. Callers of loaders use it too.
-use Rattle.std.proofs.Common.{◌≡◌, ℕ, Bool, true, Option, Some, None, IsSome, List, refl}
+use Rattle.std.proofs.Common.{◌≡◌, ℕ, Bool, true, Option, Some, None, IsSome, List}
 use Rattle.std.specs.Prelude.{Result, Ok, Err, IfOk, IfSome}
 use Rattle.std.specs.declared.sync.Arc.{Arc}
 use Rattle.std.specs.declared.alloc.Global.{Global}
-use Rattle.moka_policy.specs.declared.policy.Refused.{Refused}
 use Rattle.moka_policy.specs.declared.policy.Refused.TheVariants.{OutOfMemory}
 use Rattle.moka_model.specs.declared.entry.Entry.{Entry}
-use Rattle.moka_model.specs.Entries.{entry_of}
 use Rattle.moka_model.specs.Lives.{Settings}
 use Rattle.moka_model.specs.Steps.{AcceptedStep}
 use Rattle.moka_model.specs.Turns.{Name, fits}
@@ -21,10 +19,8 @@ use Rattle.moka_state.specs.declared.answers.Answer.TheVariants as answers
 use Rattle.moka_state.specs.Begin.{EntryKeeps}
 use Rattle.moka_state.specs.Finish.{Fits, IsGiven, OutcomeKeeps, outcome_of}
 use Rattle.moka_state.specs.Forms.{optional_outcome, tried_outcome}
-use Rattle.moka_state.specs.EntryForms.{of_optional, of_tried}
 use Rattle.moka_state.specs.Given.{Gives}
-use Rattle.moka_state.specs.Loader.{AnswerFits, GivenKeeps, IsFailure, ValueKeeps, of_loaded, optional_answer, tried_answer}
-use Rattle.moka_state.specs.OrInsert.{of_or_default}
+use Rattle.moka_state.specs.Loader.{AnswerFits, GivenKeeps, IsFailure, ValueKeeps, optional_answer, tried_answer}
 use Rattle.moka_state.proofs.Forms.{failed-memory}
 
 -- a closure that may return no value
@@ -82,36 +78,12 @@ given-values is_clone keeps copies key outcomes.Nothing (answers.Entry entry) is
 given-values is_clone keeps copies key (outcomes.Failed e) (answers.Entry entry) is kept = absurd is
 given-values is_clone keeps copies key (outcomes.Op op) (answers.Entry entry) is kept = absurd is
 
--- the value of the entry, if there is one
-pub optional_values : {K V : Type 0} (E : Type 0) (keeps : V → Type 0) (loaded : Option (Entry K V)) → ValueKeeps {E = E} keeps (optional_answer loaded) → IfSome loaded (λ entry. keeps (entry_of entry).value)
-optional_values E keeps (Some entry) kept = kept
-optional_values E keeps None kept = tt
-
 module _ {K V E : Type 0} where
   -- what holds of one value holds of another
   pub value-more : {P Q : V → Type 0} → ((v : V) → P v → Q v) → (given : Answer K V E) → ValueKeeps P given → ValueKeeps Q given
   value-more more (answers.Entry entry) kept = more _ kept
   value-more more answers.Nothing kept = tt
   value-more more (answers.Failed error) kept = tt
-
-  pub tried_values : (keeps : V → Type 0) (loaded : Result (Entry K V) (Arc E Global)) → ValueKeeps keeps (tried_answer loaded) → IfOk loaded (λ entry. keeps (entry_of entry).value)
-  tried_values keeps (Ok entry) kept = kept
-  tried_values keeps (Err error) kept = tt
-
-  -- the result of each loader, as a reply
-  pub entry_reply : (result : Result (Entry K V) Refused) → of_loaded {E = E} answers.Entry result ≡ of_or_default result
-  entry_reply (Ok entry) = refl
-  entry_reply (Err cause) = refl
-
-  pub optional_reply : (result : Result (Option (Entry K V)) Refused) → of_loaded {E = E} optional_answer result ≡ of_optional result
-  optional_reply (Ok (Some entry)) = refl
-  optional_reply (Ok None) = refl
-  optional_reply (Err cause) = refl
-
-  pub tried_reply : (result : Result (Result (Entry K V) (Arc E Global)) Refused) → of_loaded tried_answer result ≡ of_tried result
-  tried_reply (Ok (Ok entry)) = refl
-  tried_reply (Ok (Err error)) = refl
-  tried_reply (Err cause) = refl
 
 -- the outcome of a turn fits its kind
 pub given-fits : {K V E : Type 0} (is_clone : V → V → Type 0) (key : K) (kind : Kind) (o : Outcome V (Arc E Global)) (given : Answer K V E) → Fits E kind (outcome_of o) → IsGiven is_clone key o given → AnswerFits kind given

@@ -157,12 +157,7 @@ pub begun-gives : {K V E : Type 0} (eq : K → K → Bool) (is_clone : V → V �
 begun-gives eq is_clone is_infallible settings steps call (Ok (begins.Found entry)) is = is
 begun-gives eq is_clone is_infallible settings steps call (Ok (begins.Run turn)) is = is
 begun-gives eq is_clone is_infallible settings steps call (Ok (begins.Wait ticket)) is = is.1
-begun-gives eq is_clone is_infallible settings steps call (Err causes.OutOfMemory) is = is
-begun-gives eq is_clone is_infallible settings steps call (Err causes.NumbersUsedUp) is = is
-begun-gives eq is_clone is_infallible settings steps call (Err causes.UnknownTurn) is = is
-begun-gives eq is_clone is_infallible settings steps call (Err causes.UnknownTicket) is = is
-begun-gives eq is_clone is_infallible settings steps call (Err causes.TurnIsOpen) is = let no = is.0 in cc
-begun-gives eq is_clone is_infallible settings steps call (Err causes.WaitsAbandoned) is = is
+begun-gives eq is_clone is_infallible settings steps call (Err cause) is = is
 
 -- a begin of a compute is one that keeps no copy
 pub compute-gives : {K V E : Type 0} (eq : K → K → Bool) (is_clone : V → V → Type 0) (is_infallible : V → Type 0) (settings : Settings K V) (steps : List (AcceptedStep K V E)) (k : K) (kind : Kind) → kind ≡ Compute → (replace : Option Bool) (at : ℕ) (given : Result (spec.Reply K V E) Refused)

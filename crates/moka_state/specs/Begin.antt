@@ -1,5 +1,5 @@
 -- The begin of a turn.
-use Rattle.std.specs.Prelude.{⊤, ◌≡◌, ◌≢◌, ◌⊎◌, ℕ, max, Bool, true, false, Option, Some, None, List, Result, Ok, Err, OnOk, OnErr}
+use Rattle.std.specs.Prelude.{⊤, ◌≡◌, ◌≢◌, ◌⊎◌, ℕ, max, Bool, true, false, Option, Some, None, List, Result, Ok, Err, IsSome, OnOk, OnErr}
 use Rattle.std.specs.Arc.{arc_value}
 use denote.Ref.{Bor}
 use Rattle.std.specs.Fn.{Mut, TakesAt}
@@ -12,13 +12,13 @@ use Rattle.moka_model.specs.Entries.{entry_of}
 use Rattle.moka_model.specs.Lives.{Settings, Write, is_live}
 use Rattle.moka_model.specs.Turns.{IsIn}
 use Rattle.moka_model.specs.Steps.{AcceptedStep, events_in}
-use Rattle.moka_model.specs.Calls.{Call, Begin, Entered, IsWait, IfReplied, accepted, acceptable, live_at}
+use Rattle.moka_model.specs.Calls.{Call, Begin, Entered, acceptable, live_at}
 use Rattle.moka_expiration.specs.StateData.{SettingsData, StateData}
 use Rattle.moka_table.specs.LiveEntry.{IsCalledOnce, IsSaid}
 use Rattle.moka_state.specs.State.{all_writes}
 use Rattle.moka_state.specs.BegunOf.{BegunOf}
 use Rattle.moka_single_flight.specs.declared.replies.Begun.TheVariants as begins
-use Rattle.moka_state.specs.Given.{Gives, of_begin}
+use Rattle.moka_state.specs.Given.{FailsToBegin, Gives, of_begin}
 
 -- The closure may be called at each value that satisfies the invariant.
 abbrev pub TakesKept : {V P : Type 0} → (V → Type 0) → Mut P (Bor V × Unit {0}) Bool → P → Type 0
@@ -42,14 +42,15 @@ IsSaidOf call replace_if None said = said ≡ None
 IsSaidOf call replace_if (Some w) said = IsSaid call replace_if w.value said
 
 -- A lookup finds no acceptable value: none is live, or the live one was turned down. Or it returns the entry that a
--- begin of any loader would return. Or it fails with `OutOfMemory`.
+-- begin of any loader would return. Or it finds an acceptable value, and fails with `OutOfMemory`.
 abbrev pub GivesLook : {K V E : Type 0} → (K → K → Bool) → (V → V → Type 0) → (V → Type 0) → Settings K V →
     List (AcceptedStep K V E) → K → Option Bool → ℕ → Result (Option (Entry K V)) Refused → Type 0
 GivesLook eq is_clone is_infallible settings steps key said at (Ok None) =
     acceptable said (live_at eq settings key at (events_in steps)) ≡ None
 GivesLook eq is_clone is_infallible settings steps key said at (Ok (Some entry)) =
     (kind : Kind) → kind ≢ Compute → Gives eq is_clone is_infallible settings steps (Begin key kind said at) (Ok (Entered (entry_of entry)))
-GivesLook eq is_clone is_infallible settings steps key said at (Err cause) = cause ≡ causes.OutOfMemory
+GivesLook eq is_clone is_infallible settings steps key said at (Err cause) =
+    (cause ≡ causes.OutOfMemory) × IsSome (acceptable said (live_at eq settings key at (events_in steps)))
 
 -- P if the lookup found an entry, Q if it found none or failed.
 abbrev pub ByFound : {K V : Type 0} → Type 0 → Type 0 → Result (Option (Entry K V)) Refused → Type 0
@@ -62,16 +63,16 @@ pub record LookEnds {K V H W X F E : Type 0} (gives : Result (Option (Entry K V)
   pub reply : gives result
   pub stands : ByFound follows (new ≡ old) result
 
--- A begin that may not wait fails with `TurnIsOpen` only if it would have to wait, and only one that may wait returns a
--- ticket. Any other result is the one of the specification.
+-- Only a begin that may wait returns a ticket. One that may not fails with `TurnIsOpen` exactly where it would have to
+-- wait. Any other result is the one of the specification.
 abbrev pub GivesBegun : {K V E : Type 0} → (K → K → Bool) → (V → V → Type 0) → (V → Type 0) → Settings K V →
     List (AcceptedStep K V E) → Call K V E → Bool → Result (BegunOf K V) Refused → Type 0
-GivesBegun eq is_clone is_infallible settings steps call may_wait (Err causes.TurnIsOpen) =
-    (may_wait ≡ false) × IfReplied IsWait (accepted eq settings steps call)
 GivesBegun eq is_clone is_infallible settings steps call may_wait (Ok (begins.Wait ticket)) =
     (may_wait ≡ true) × Gives eq is_clone is_infallible settings steps call (of_begin (Ok (begins.Wait ticket)))
-GivesBegun eq is_clone is_infallible settings steps call may_wait result =
-    Gives eq is_clone is_infallible settings steps call (of_begin result)
+GivesBegun eq is_clone is_infallible settings steps call may_wait (Ok begun) =
+    Gives eq is_clone is_infallible settings steps call (of_begin (Ok begun))
+GivesBegun eq is_clone is_infallible settings steps call may_wait (Err cause) =
+    FailsToBegin eq is_clone is_infallible settings steps call may_wait cause
 
 -- A begin ends as `gives` says. If it succeeds, `follows` holds; if it fails, nothing has changed.
 pub record BeginEnds {K V H W X F E : Type 0} (gives : Result (BegunOf K V) Refused → Type 0) (follows : Type 0)

@@ -3,13 +3,12 @@ use Rattle.std.specs.Prelude.{⊤, ◌≡◌, ℕ, Bool, true, false, Option, So
 use Rattle.std.specs.Prelude.{if◌then◌else◌}
 use Rattle.std.specs.Arc.{arc_value}
 use Rattle.moka_policy.specs.declared.policy.Refused.{Refused}
-use Rattle.moka_policy.specs.declared.policy.Refused.TheVariants as causes
 use Rattle.moka_model.specs.declared.turns.Kind.TheVariants.{Compute}
 use Rattle.moka_model.specs.declared.comp_result.CompResult.{CompResult}
 use Rattle.moka_model.specs.declared.comp_result.CompResult.TheVariants as results
 use Rattle.moka_model.specs.Lives.{Settings}
 use Rattle.moka_model.specs.Steps.{AcceptedStep}
-use Rattle.moka_model.specs.Calls.{Call, IsCopyOf, IsWait, IfReplied, accepted, entry_under, fresh_entry}
+use Rattle.moka_model.specs.Calls.{Call, IsCopyOf, entry_under, fresh_entry}
 use Rattle.moka_model.specs.Calls as calls
 use Rattle.moka_model.specs.Entries.{entry_of}
 use Rattle.moka_rows.specs.declared.rows.Row.{Row}
@@ -22,7 +21,7 @@ use Rattle.moka_state.specs.declared.answers.BegunCompute.TheVariants as begins
 use Rattle.moka_state.specs.declared.answers.ShownTurn.{ShownTurn}
 use Rattle.moka_state.specs.declared.compute.Shown.{Shown}
 use Rattle.moka_state.specs.Begin.{EntryKeeps}
-use Rattle.moka_state.specs.Given.{Gives, of_begin_compute}
+use Rattle.moka_state.specs.Given.{FailsToBegin, Gives, of_begin_compute}
 
 -- The lookup of a compute finds the row of a key whose value is live. It returns the entry and, with `keep`, a second
 -- clone of the value. Or it finds none: the key has no row, or its value is not live.
@@ -40,14 +39,14 @@ pub record ComputeBegins {K V H W X F E : Type 0} (gives : Result (calls.Reply K
   pub stands : OnOk result follows
   pub refused : OnErr result (new ≡ old)
 
--- A begin that may not wait fails with `TurnIsOpen` only if it would have to wait. Any other result is the one of the
--- specification.
+-- A begin that may not wait fails with `TurnIsOpen` exactly where it would have to wait. Any other result is the one of
+-- the specification.
 abbrev pub GivesAtOnce : {K V E : Type 0} → (K → K → Bool) → (V → V → Type 0) → (V → Type 0) → Settings K V →
     List (AcceptedStep K V E) → Call K V E → Bool → Result (calls.Reply K V E) Refused → Type 0
-GivesAtOnce eq is_clone is_infallible settings steps call may_wait (Err causes.TurnIsOpen) =
-    (may_wait ≡ false) × IfReplied IsWait (accepted eq settings steps call)
-GivesAtOnce eq is_clone is_infallible settings steps call may_wait result =
-    Gives eq is_clone is_infallible settings steps call result
+GivesAtOnce eq is_clone is_infallible settings steps call may_wait (Ok answer) =
+    Gives eq is_clone is_infallible settings steps call (Ok answer)
+GivesAtOnce eq is_clone is_infallible settings steps call may_wait (Err cause) =
+    FailsToBegin eq is_clone is_infallible settings steps call may_wait cause
 
 -- The result of the begin of a compute that never waits, as that of one that may.
 abbrev pub as_begun_compute : {K V : Type 0} → Result (ShownTurn K V) Refused → Result (BegunCompute K V) Refused

@@ -1,7 +1,6 @@
 -- Computes with a closure: begin, closure and finish at one moment, or an abandoned turn.
 use Rattle.std.specs.Prelude.{⊤, ◌≡◌, ℕ, Bool, Option, Some, None, List, Result, Ok, Err}
 use Rattle.moka_policy.specs.declared.policy.Refused.{Refused}
-use Rattle.moka_policy.specs.declared.policy.Refused.TheVariants as causes
 use Rattle.moka_model.specs.declared.turns.Op.{Op}
 use Rattle.moka_model.specs.declared.turns.Outcome.TheVariants as outcomes
 use Rattle.moka_model.specs.declared.entry.Entry.{Entry}
@@ -11,10 +10,10 @@ use Rattle.moka_model.specs.Entries.{entry_of}
 use Rattle.moka_model.specs.Lives.{Settings}
 use Rattle.moka_model.specs.Steps.{AcceptedStep}
 use Rattle.moka_model.specs.Turns.{Name}
-use Rattle.moka_model.specs.Calls.{Call, Abandon, Done, Run, Inserted, ReplacedWith, IsWait, IfReplied, accepted, after}
+use Rattle.moka_model.specs.Calls.{Call, Abandon, Done, Run, Inserted, ReplacedWith, after}
 use Rattle.moka_model.specs.Calls as calls
 use Rattle.moka_state.specs.Forms.{EndsTurn}
-use Rattle.moka_state.specs.Given.{Gives}
+use Rattle.moka_state.specs.Given.{FailsAtOnce, Gives}
 
 module _ {K V E : Type 0} where
   -- The result of a compute, as a reply of the specification.
@@ -61,9 +60,8 @@ module _ {K V E : Type 0} (eq : K → K → Bool) (is_clone : V → V → Type 0
   abbrev pub IsComputeForm : List (AcceptedStep K V E) → Call K V E → ℕ → Option (calls.Entry K V) → Option (Option (Op V)) →
       Result (calls.Reply K V E) Refused → (List (AcceptedStep K V E) → Type 0) → Type 0
   IsComputeForm steps begin now shown None (Ok answer) Stands = ⊥
-  IsComputeForm steps begin now shown None (Err causes.TurnIsOpen) Stands = IfReplied IsWait (accepted eq settings steps begin)
   IsComputeForm steps begin now shown None (Err cause) Stands =
-      Gives eq is_clone is_infallible settings steps begin (Err cause)
+      FailsAtOnce eq is_clone is_infallible settings steps begin cause
   IsComputeForm steps begin now shown (Some said) answer Stands =
       (name : Name K) × Gives eq is_clone is_infallible settings steps begin (Ok (Run name shown))
       × EndsCompute (after eq settings begin steps) name said now answer Stands

@@ -1,5 +1,5 @@
 -- How the calls of a state end, over all its histories. Each word takes the specification at the types of the cache first.
-use Rattle.std.specs.Prelude.{◌≡◌, ◌≢◌, ℕ, Bool, true, false, Option, None, List}
+use Rattle.std.specs.Prelude.{◌≡◌, ◌≢◌, ◌&&◌, ℕ, Bool, true, false, is_some, not, Option, None, List}
 use Rattle.std.specs.Prelude.{Result, IsOk, IfOk, IfErr, OnOk, OnErr, IfSome, IsSome, IsSomeAnd, option_map}
 use Rattle.std.specs.Arc.{arc_value}
 use Rattle.std.specs.declared.sync.Arc.{Arc}
@@ -300,6 +300,11 @@ module _ {K V H W X F E : Type 0} (spec : Spec K V E (StateData K V H W X F E)) 
   -- That turn has this many unspent tickets.
   abbrev pub IsAwaitedBy : Turn K → ℕ → StateData K V H W X F E → Type 0
   IsAwaitedBy turn waiting state = IfSome (open_of turn state) (λ t. t.unspent ≡ waiting)
+
+  -- Whether a begin has to fail with `TurnIsOpen`: it may not wait, and a turn of the kind and key is open.
+  abbrev pub HasToRefuse : Kind → K → Bool → StateData K V H W X F E → Bool → Type 0
+  HasToRefuse kind key may_wait state refuses = spec.at_each state (λ settings steps.
+      refuses ≡ (not may_wait && is_some (found (is_open_for spec.eq kind key) (turns steps))))
 
   -- No turn of this name is open after any history.
   abbrev pub IsUnknown : Name K → StateData K V H W X F E → Type 0

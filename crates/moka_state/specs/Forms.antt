@@ -4,16 +4,15 @@ use Rattle.std.specs.Arc.{arc_value}
 use Rattle.std.specs.declared.sync.Arc.{Arc}
 use Rattle.std.specs.declared.alloc.Global.{Global}
 use Rattle.moka_policy.specs.declared.policy.Refused.{Refused}
-use Rattle.moka_policy.specs.declared.policy.Refused.TheVariants as causes
 use Rattle.moka_model.specs.declared.turns.Outcome.{Outcome}
 use Rattle.moka_model.specs.declared.turns.Outcome.TheVariants as outcomes
 use Rattle.moka_model.specs.Lives.{Settings}
 use Rattle.moka_model.specs.Steps.{AcceptedStep}
 use Rattle.moka_model.specs.Turns.{Name}
-use Rattle.moka_model.specs.Calls.{Call, Finish, Abandon, Entered, Run, GaveNothing, GaveError, IsWait, IfReplied, accepted, after}
+use Rattle.moka_model.specs.Calls.{Call, Finish, Abandon, Entered, Run, GaveNothing, GaveError, after}
 use Rattle.moka_model.specs.Calls as calls
 use Rattle.moka_state.specs.declared.answers.Answer.{Answer}
-use Rattle.moka_state.specs.Given.{Gives, of_answer}
+use Rattle.moka_state.specs.Given.{FailsAtOnce, Gives, of_answer}
 
 module _ {K V E : Type 0} where
   -- The result of the end of a turn, as a reply of the specification.
@@ -82,8 +81,7 @@ module _ {K V E : Type 0} (eq : K → K → Bool) (is_clone : V → V → Type 0
       (List (AcceptedStep K V E) → Type 0) → Type 0
   IsForm steps begin now None (Ok reply) Stands =
       IsEntered reply × Gives eq is_clone is_infallible settings steps begin (Ok reply) × Stands (after eq settings begin steps)
-  IsForm steps begin now None (Err causes.TurnIsOpen) Stands = IfReplied IsWait (accepted eq settings steps begin)
-  IsForm steps begin now None (Err cause) Stands = Gives eq is_clone is_infallible settings steps begin (Err cause)
+  IsForm steps begin now None (Err cause) Stands = FailsAtOnce eq is_clone is_infallible settings steps begin cause
   IsForm steps begin now (Some outcome) reply Stands =
       (name : Name K) × Gives eq is_clone is_infallible settings steps begin (Ok (Run name None))
       × EndsTurn (after eq settings begin steps) name outcome now reply Stands

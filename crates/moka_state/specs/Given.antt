@@ -1,5 +1,5 @@
 -- What a call returns after a history: a reply of the specification, or an error whose cause holds.
-use Rattle.std.specs.Prelude.{⊤, ◌≡◌, Bool, Option, List, Result, Ok, Err, option_map}
+use Rattle.std.specs.Prelude.{⊤, ◌≡◌, Bool, true, false, Option, List, Result, Ok, Err, option_map}
 use Rattle.std.specs.Arc.{arc_value}
 use Rattle.moka_policy.specs.declared.policy.Refused.{Refused}
 use Rattle.moka_policy.specs.declared.policy.Refused.TheVariants as causes
@@ -7,7 +7,7 @@ use Rattle.moka_model.specs.Lives.{Settings}
 use Rattle.moka_model.specs.Steps.{AcceptedStep}
 use Rattle.moka_model.specs.Calls.{Call, Done, Entered, Run, Wait, GaveNothing, GaveError, NotYet, WasAbandoned, HasEnded, reply_by}
 use Rattle.moka_model.specs.Calls.{accepted, MayTakeMemory, IsOutOfNumbers, Begin, BeginCompute, UnknownTurn, UnknownTicket}
-use Rattle.moka_model.specs.Calls.{IsRefusedAs}
+use Rattle.moka_model.specs.Calls.{IfReplied, IsRefusedAs, IsWait}
 use Rattle.moka_model.specs.Calls as calls
 use Rattle.moka_model.specs.Entries.{entry_of}
 use Rattle.moka_model.specs.CompResults.{of_computed}
@@ -53,6 +53,22 @@ Gives eq is_clone is_infallible settings steps call (Err causes.UnknownTurn) = I
 Gives eq is_clone is_infallible settings steps call (Err causes.UnknownTicket) = IsRefusedAs eq settings UnknownTicket steps call
 Gives eq is_clone is_infallible settings steps call (Err causes.TurnIsOpen) = ⊥
 Gives eq is_clone is_infallible settings steps call (Err causes.WaitsAbandoned) = ⊥
+
+-- A begin that never waits fails with `TurnIsOpen` exactly where it would have to wait. With any other cause it fails as
+-- a begin that may wait.
+abbrev pub FailsAtOnce : {K V E : Type 0} → (K → K → Bool) → (V → V → Type 0) → (V → Type 0) → Settings K V →
+    List (AcceptedStep K V E) → Call K V E → Refused → Type 0
+FailsAtOnce eq is_clone is_infallible settings steps call causes.TurnIsOpen = IfReplied IsWait (accepted eq settings steps call)
+FailsAtOnce eq is_clone is_infallible settings steps call cause =
+    ¬ (IfReplied IsWait (accepted eq settings steps call)) × Gives eq is_clone is_infallible settings steps call (Err cause)
+
+-- What a begin fails with, by whether it may wait.
+abbrev pub FailsToBegin : {K V E : Type 0} → (K → K → Bool) → (V → V → Type 0) → (V → Type 0) → Settings K V →
+    List (AcceptedStep K V E) → Call K V E → Bool → Refused → Type 0
+FailsToBegin eq is_clone is_infallible settings steps call true cause =
+    Gives eq is_clone is_infallible settings steps call (Err cause)
+FailsToBegin eq is_clone is_infallible settings steps call false cause =
+    FailsAtOnce eq is_clone is_infallible settings steps call cause
 
 module _ {K V E : Type 0} where
   -- The result of a call without a value, as a reply of the specification. The next definitions do the same for other

@@ -3,7 +3,7 @@ ghost use Rattle.std.specs.Prelude.{◌≡◌, ◌≢◌, Bool, Option, None, tr
 ghost use Rattle.std.specs.Arc.{arc_value};
 ghost use Rattle.moka_state.specs.Begin.{EntryKeeps, FoundKeeps, FoundKeepsFor, IfWait, IsAsked, IsNamed, IsSaidOf, IsShownKept, TakesLive};
 ghost use Rattle.moka_state.specs.Hashes.{IsHashOf};
-ghost use Rattle.moka_state.specs.Ends.{IsLiveAt, LoaderBegins, LoaderBeginsAs, LoaderBeginsByRef, Looks, Misses};
+ghost use Rattle.moka_state.specs.Ends.{HasToRefuse, IsLiveAt, LoaderBegins, LoaderBeginsAs, LoaderBeginsByRef, Looks, Misses};
 
 use crate::answers::Begun;
 use crate::call_view::CallView;
@@ -164,6 +164,18 @@ impl<K: Hash + Drop, V: Clone, C: CacheTypes<K, V>, R: RowStore<K, V>> State<K, 
         Ok(Some(entry))
     }
 
+    // Returns whether a begin has to fail with `TurnIsOpen`: it may not wait, and a turn of the key
+    // and the kind is open.
+    pub(crate) fn has_to_refuse(&self, key: &K, hash: u64, kind: Kind, may_wait: bool) -> bool
+        requires { IsHashOf (⟦<C as StateView<K, V>>⟧.settings self.now.settings) key.now hash }
+        ensures { HasToRefuse ⟦<C as CallView<K, V>>⟧.spec kind key.now may_wait self.now result }
+    {
+        if may_wait {
+            return false;
+        }
+        self.turns.has_open(hash, kind, key)
+    }
+
     // Waits for the open turn of a key and a kind, or opens one, after a lookup that found no
     // acceptable value. Fails with `TurnIsOpen` if it would have to wait and may not.
     pub(crate) fn begin_turn(
@@ -188,10 +200,7 @@ impl<K: Hash + Drop, V: Clone, C: CacheTypes<K, V>, R: RowStore<K, V>> State<K, 
     {
         let now = self.latest.max(now);
         let wanted = TurnKey { hash, kind, key };
-        let begun = match self.turns.begin(wanted, self.next_number, may_wait) {
-            Ok(begun) => begun,
-            Err(cause) => return Err(cause),
-        };
+        let begun = self.turns.begin(wanted, self.next_number, may_wait)?;
         self.housekeeper.source.note(hash);
         self.latest = now;
         match begun {
@@ -237,6 +246,7 @@ impl<K: Hash + Clone + Drop, V: Clone, C: CacheTypes<K, V>, R: RowStore<K, V>> S
     }
 
     // Works like `begin_by_ref`, but fails with `TurnIsOpen` if it would have to wait and may not.
+    // Then it does not clone the key.
     pub(crate) fn begin_borrowed<F: FnMut(&V) -> bool + Drop>(
         &mut self,
         key: &K,
@@ -260,10 +270,15 @@ impl<K: Hash + Clone + Drop, V: Clone, C: CacheTypes<K, V>, R: RowStore<K, V>> S
         let hash = self.hash(key);
         match self.acceptable_entry(key, hash, replace_if, now) {
             Ok(Some(entry)) => Ok(Begun::Found(entry)),
-            Ok(None) => match self.share_copy(key) {
-                Ok(copy) => self.begin_turn(copy, hash, kind, now, may_wait),
-                Err(_) => Err(Refused::OutOfMemory),
-            },
+            Ok(None) => {
+                if self.has_to_refuse(key, hash, kind, may_wait) {
+                    return Err(Refused::TurnIsOpen);
+                }
+                match self.share_copy(key) {
+                    Ok(copy) => self.begin_turn(copy, hash, kind, now, may_wait),
+                    Err(_) => Err(Refused::OutOfMemory),
+                }
+            }
             Err(cause) => Err(cause),
         }
     }

@@ -116,10 +116,7 @@ impl<K: Hash + Clone + Drop, V: Clone, C: CacheTypes<K, V>, R: RowStore<K, V>> S
         ensures kept { IfOk result (λ loaded. ValueKeeps (C.keeps key.now) (G.answer loaded)) }
         ensures settings { self.new.settings ≡ self.old.settings }
     {
-        let begun = match self.begin_now_by_ref(key, G::kind(), now) {
-            Ok(begun) => begun,
-            Err(cause) => return Err(cause),
-        };
+        let begun = self.begin_now_by_ref(key, G::kind(), now)?;
         match begun {
             BegunNow::Found(entry) => Ok(G::found(entry)),
             BegunNow::Run(turn) => self.end_with(turn, init(), now),

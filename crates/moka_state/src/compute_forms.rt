@@ -53,10 +53,7 @@ impl<K: Hash + Drop, V: Clone, C: CacheTypes<K, V>, R: RowStore<K, V>> State<K, 
             self.new (of_computing result) }
         ensures settings { self.new.settings ≡ self.old.settings }
     {
-        let ShownTurn { turn, shown } = match self.begin_compute_now(key, true, now) {
-            Ok(begun) => begun,
-            Err(cause) => return Err(cause),
-        };
+        let ShownTurn { turn, shown } = self.begin_compute_now(key, true, now)?;
         self.end_compute(turn, f(shown), now)
     }
 
@@ -78,10 +75,7 @@ impl<K: Hash + Drop, V: Clone, C: CacheTypes<K, V>, R: RowStore<K, V>> State<K, 
         ensures kept { IfOk result (λ entry. C.keeps key (entry_of entry).value) }
         ensures settings { self.new.settings ≡ self.old.settings }
     {
-        let ShownTurn { turn, shown } = match self.begin_compute_now(key, false, now) {
-            Ok(begun) => begun,
-            Err(cause) => return Err(cause),
-        };
+        let ShownTurn { turn, shown } = self.begin_compute_now(key, false, now)?;
         self.end_with_put(turn, f(shown), now)
     }
 
@@ -102,14 +96,12 @@ impl<K: Hash + Drop, V: Clone, C: CacheTypes<K, V>, R: RowStore<K, V>> State<K, 
             (λ given. IsErrorOf given result) key true now self.old self.new (of_trying result) }
         ensures settings { self.new.settings ≡ self.old.settings }
     {
-        let ShownTurn { turn, shown } = match self.begin_compute_now(key, true, now) {
-            Ok(begun) => begun,
-            Err(cause) => return Err(cause),
-        };
+        let ShownTurn { turn, shown } = self.begin_compute_now(key, true, now)?;
         self.end_tried_compute(turn, f(shown), now)
     }
 
-    // Begins a compute without waiting: fails with `TurnIsOpen` if a compute of the key is open.
+    // Begins a compute without waiting: fails with `TurnIsOpen` if a compute of the key is open. The
+    // key moves into an `Arc` only if none is.
     fn begin_compute_now(
         &mut self,
         key: K,
@@ -123,6 +115,9 @@ impl<K: Hash + Drop, V: Clone, C: CacheTypes<K, V>, R: RowStore<K, V>> State<K, 
         ensures settings { self.new.settings ≡ self.old.settings }
     {
         let hash = self.hash(&key);
+        if self.has_to_refuse(&key, hash, Kind::Compute, false) {
+            return Err(Refused::TurnIsOpen);
+        }
         match self.share(key) {
             Ok(shared) => into_shown_turn(self.begin_computing(shared, hash, keep, now, false)),
             Err(_) => Err(Refused::OutOfMemory),

@@ -140,10 +140,7 @@ impl<K: Hash + Drop, V: Clone, C: CacheTypes<K, V>, R: RowStore<K, V>> State<K, 
         ensures kept { IfOk result (λ loaded. ValueKeeps (C.keeps key) (G.answer loaded)) }
         ensures settings { self.new.settings ≡ self.old.settings }
     {
-        let begun = match self.begin_now(key, G::kind(), now) {
-            Ok(begun) => begun,
-            Err(cause) => return Err(cause),
-        };
+        let begun = self.begin_now(key, G::kind(), now)?;
         match begun {
             BegunNow::Found(entry) => Ok(G::found(entry)),
             BegunNow::Run(turn) => self.end_with(turn, init(), now),
@@ -167,10 +164,7 @@ impl<K: Hash + Drop, V: Clone, C: CacheTypes<K, V>, R: RowStore<K, V>> State<K, 
         ensures kept { IfOk result (λ loaded. ValueKeeps (C.keeps key) (G.answer loaded)) }
         ensures settings { self.new.settings ≡ self.old.settings }
     {
-        let begun = match self.begin_now_if(key, G::kind(), Some(replace_if), now) {
-            Ok(begun) => begun,
-            Err(cause) => return Err(cause),
-        };
+        let begun = self.begin_now_if(key, G::kind(), Some(replace_if), now)?;
         match begun {
             BegunNow::Found(entry) => Ok(G::found(entry)),
             BegunNow::Run(turn) => self.end_with(turn, init(), now),

@@ -47,7 +47,7 @@ impl<K: Hash + Drop, V: Clone, C: CacheTypes<K, V>, R: RowStore<K, V>> State<K, 
     /// # Complexity
     ///
     /// A hit costs a [`State::get`] and a share of the stored key. Otherwise the call costs a
-    /// [`State::begin`] and a [`State::finish`].
+    /// [`State::begin`], a [`State::finish`] and one more lookup in the table of turns.
     pub fn get_with<F: FnOnce() -> V + Drop>(
         &mut self,
         key: K,
@@ -159,7 +159,8 @@ impl<K: Hash + Drop, V: Clone, C: CacheTypes<K, V>, R: RowStore<K, V>> State<K, 
     }
 
     // Does the begin of a loader without waiting: fails with `TurnIsOpen` if a turn of the key and
-    // the kind is open. The key moves into an `Arc` only if no acceptable value is live.
+    // the kind is open. The key moves into an `Arc` only if no acceptable value is live and no such
+    // turn is open.
     pub(crate) fn begin_now_if<F: FnMut(&V) -> bool + Drop>(
         &mut self,
         key: K,
@@ -179,10 +180,15 @@ impl<K: Hash + Drop, V: Clone, C: CacheTypes<K, V>, R: RowStore<K, V>> State<K, 
         let hash = self.hash(&key);
         match self.acceptable_entry(&key, hash, replace_if, now) {
             Ok(Some(entry)) => Ok(BegunNow::Found(entry)),
-            Ok(None) => match self.share(key) {
-                Ok(shared) => into_begun_now(self.begin_turn(shared, hash, kind, now, false)),
-                Err(_) => Err(Refused::OutOfMemory),
-            },
+            Ok(None) => {
+                if self.has_to_refuse(&key, hash, kind, false) {
+                    return Err(Refused::TurnIsOpen);
+                }
+                match self.share(key) {
+                    Ok(shared) => into_begun_now(self.begin_turn(shared, hash, kind, now, false)),
+                    Err(_) => Err(Refused::OutOfMemory),
+                }
+            }
             Err(cause) => Err(cause),
         }
     }

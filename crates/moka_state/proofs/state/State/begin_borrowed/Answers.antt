@@ -1,7 +1,7 @@
 use Rattle.std.proofs.Common.{inl, inr, sym, refl, ◌∙◌}
 use Rattle.std.specs.Arc.{arc_value}
 use Rattle.moka_state.proofs.Alike.{hash-alike}
-use Rattle.moka_state.proofs.Begins.{live-alike}
+use Rattle.moka_state.proofs.Begins.{found-memory, live-alike, refuses-memory, refuses-open}
 use Rattle.moka_state.proofs.state.State.begin_borrowed.Goals as goal
 
 pub begin_turn-requires-clause-hash : goal.begin_turn-requires-clause-hash
@@ -49,16 +49,34 @@ returns-in-Ok-Some-clause-begins g c =
       tt,
     )
 
-pub returns-in-Err-share_copy-clause-begins : goal.returns-in-Err-share_copy-clause-begins
-returns-in-Err-share_copy-clause-begins g c =
-    let looks = rw (c.in-Ok-None.is, c.in-Ok-None.field-0-is) at c.acceptable_entry.ensures.looks in (
+pub returns-then-has_to_refuse-clause-begins : goal.returns-then-has_to_refuse-clause-begins
+returns-then-has_to_refuse-clause-begins g c =
+    let looks = rw (c.in-Ok-None.is, c.in-Ok-None.field-0-is) at c.acceptable_entry.ensures.looks in
+    let told = rw (looks.1.stands, c.if-has_to_refuse.true) at c.has_to_refuse.ensures in (
       c.args.key.now,
       (g.met.K.Eq.laws.refl c.args.key.now, inl refl),
       looks.0,
       record {
         reply = λ settings steps stands.
             let it = looks.1.reply settings steps stands in
-            (it.0, (tt, λ counts. absurd counts));
+            (it.0, refuses-open g.K.PartialEq.eq g.V.Clone.is_clone g.V.Clone.is_infallible settings steps c.args.key.now c.args.kind looks.0 c.args.now c.requires.initializer it.1 c.args.may_wait (told settings steps stands));
+        stands = tt;
+        refused = looks.1.stands;
+      },
+      tt,
+    )
+
+pub returns-in-Err-share_copy-clause-begins : goal.returns-in-Err-share_copy-clause-begins
+returns-in-Err-share_copy-clause-begins g c =
+    let looks = rw (c.in-Ok-None.is, c.in-Ok-None.field-0-is) at c.acceptable_entry.ensures.looks in
+    let told = rw (looks.1.stands, c.if-has_to_refuse.false) at c.has_to_refuse.ensures in (
+      c.args.key.now,
+      (g.met.K.Eq.laws.refl c.args.key.now, inl refl),
+      looks.0,
+      record {
+        reply = λ settings steps stands.
+            let it = looks.1.reply settings steps stands in
+            (it.0, refuses-memory g.K.PartialEq.eq g.V.Clone.is_clone g.V.Clone.is_infallible settings steps c.args.key.now c.args.kind looks.0 c.args.now c.requires.initializer it.1 c.args.may_wait (told settings steps stands));
         stands = tt;
         refused = looks.1.stands;
       },
@@ -74,7 +92,7 @@ returns-in-Err-clause-begins g c =
       record {
         reply = λ settings steps stands.
             let it = looks.1.reply settings steps stands in
-            (it.0, rw it.1 (tt, λ counts. absurd counts));
+            (it.0, rw it.1.0 (found-memory g.K.PartialEq.eq g.V.Clone.is_clone g.V.Clone.is_infallible settings steps c.args.key.now c.args.kind looks.0 c.args.now c.requires.initializer c.args.may_wait it.1.1));
         stands = tt;
         refused = looks.1.stands;
       },

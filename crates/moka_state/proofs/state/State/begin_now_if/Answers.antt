@@ -1,4 +1,47 @@
+use Rattle.std.proofs.Common.{false}
+use Rattle.moka_state.proofs.Begins.{found-memory, refuses-memory, refuses-open}
 use Rattle.moka_state.proofs.state.State.begin_now_if.Goals as goal
+
+pub returns-then-has_to_refuse-clause-begins : goal.returns-then-has_to_refuse-clause-begins
+returns-then-has_to_refuse-clause-begins g c =
+    let looks = rw (c.in-Ok-None.is, c.in-Ok-None.field-0-is) at c.acceptable_entry.ensures.looks in
+    let told = rw (looks.1.stands, c.if-has_to_refuse.true) at c.has_to_refuse.ensures in (
+      looks.0,
+      record {
+        reply = λ settings steps stands.
+            let it = looks.1.reply settings steps stands in
+            (it.0, refuses-open g.K.PartialEq.eq g.V.Clone.is_clone g.V.Clone.is_infallible settings steps c.args.key c.args.kind looks.0 c.args.now c.requires.initializer it.1 false (told settings steps stands));
+        stands = tt;
+        refused = looks.1.stands;
+      },
+    )
+
+pub returns-in-Err-share-clause-begins : goal.returns-in-Err-share-clause-begins
+returns-in-Err-share-clause-begins g c =
+    let looks = rw (c.in-Ok-None.is, c.in-Ok-None.field-0-is) at c.acceptable_entry.ensures.looks in
+    let told = rw (looks.1.stands, c.if-has_to_refuse.false) at c.has_to_refuse.ensures in (
+      looks.0,
+      record {
+        reply = λ settings steps stands.
+            let it = looks.1.reply settings steps stands in
+            (it.0, refuses-memory g.K.PartialEq.eq g.V.Clone.is_clone g.V.Clone.is_infallible settings steps c.args.key c.args.kind looks.0 c.args.now c.requires.initializer it.1 false (told settings steps stands));
+        stands = tt;
+        refused = looks.1.stands;
+      },
+    )
+
+pub returns-in-Err-clause-begins : goal.returns-in-Err-clause-begins
+returns-in-Err-clause-begins g c =
+    let looks = rw c.in-Err.is at c.acceptable_entry.ensures.looks in (
+      looks.0,
+      record {
+        reply = λ settings steps stands.
+            let it = looks.1.reply settings steps stands in
+            (it.0, rw it.1.0 (found-memory g.K.PartialEq.eq g.V.Clone.is_clone g.V.Clone.is_infallible settings steps c.args.key c.args.kind looks.0 c.args.now c.requires.initializer false it.1.1));
+        stands = tt;
+        refused = looks.1.stands;
+      },
+    )
 
 pub returns-in-Ok-clause-begins : goal.returns-in-Ok-clause-begins
 returns-in-Ok-clause-begins g c =

@@ -28,6 +28,19 @@ returns-in-Ok-Some-clause-begins g c =
       },
     )
 
+pub returns-in-Err-clause-begins : goal.returns-in-Err-clause-begins
+returns-in-Err-clause-begins g c =
+    let looks = rw (c.deref-2.ensures, c.in-Err.is) at c.find_acceptable_entry.ensures.looks in (
+      looks.0,
+      record {
+        reply = λ settings steps stands.
+            let it = looks.1.reply settings steps stands in
+            (it.0, rw it.1.0 (tt, λ counts. absurd counts));
+        stands = tt;
+        refused = looks.1.stands;
+      },
+    )
+
 pub returns-in-Ok-clause-kept_for : goal.returns-in-Ok-clause-kept_for
 returns-in-Ok-clause-kept_for g c = c.begin_turn.ensures.kept_for (arc_value c.args.key.now)
 

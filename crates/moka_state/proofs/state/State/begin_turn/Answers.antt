@@ -13,12 +13,13 @@ use Rattle.moka_turns.proofs.Views.{table-keeps, table-holds}
 use Rattle.moka_state.proofs.Alike.{hash-alike}
 use Rattle.moka_state.proofs.Becoming.{estimates-noted}
 use Rattle.moka_state.proofs.Begins.{looks-in-vain, gives-wait, after-wait, gives-run, after-run, gives-refused, waits-told, runs-told, becomes-drawn, move-stands}
+use Rattle.moka_state.proofs.Results.{err-is}
 use Rattle.moka_state.proofs.Turns.{sound-turns, same-turns, with-turns}
 use Rattle.moka_state.proofs.Views.{view-becomes}
 use Rattle.moka_state.proofs.state.State.begin_turn.Goals as goal
 
-pub returns-in-Err-clause-begins : goal.returns-in-Err-clause-begins
-returns-in-Err-clause-begins g c said unacceptable = record {
+pub returns-in_err-begun-clause-begins : goal.returns-in_err-begun-clause-begins
+returns-in_err-begun-clause-begins g c said unacceptable = rw (err-is c.from_residual.result _ c.from_residual.ensures.1) (record {
   reply = λ given steps stands.
       let s = c.self.inside in
       let eq = g.K.PartialEq.eq in
@@ -33,13 +34,13 @@ returns-in-Err-clause-begins g c said unacceptable = record {
       let keeps = table-keeps eq laws g.V.Clone.is_clone hash_of alike s.turns.opened.entries s.turns.ended.entries (turns steps) there.turns in
       let sound = sound-turns eq laws given steps there.legal in
       let counted = ap (λ (b : Books _ _). b.next_number) there.books in
-      let begins = c.in-Err.ensures.begins hash_of (turns steps) alike hash sound keeps in
-      gives-refused eq g.V.Clone.is_clone g.V.Clone.is_infallible given steps key c.args.kind said c.args.now c.requires.initializer none sound.0 hash_of _ _ q _ c.args.may_wait _ refl counted c.in-Err.cause begins;
+      let begins = c.in_err-begun.ensures.begins hash_of (turns steps) alike hash sound keeps in
+      gives-refused eq g.V.Clone.is_clone g.V.Clone.is_infallible given steps key c.args.kind said c.args.now c.requires.initializer none sound.0 hash_of _ _ q _ c.args.may_wait _ refl counted _ begins;
   stands = tt;
   refused =
       let s = c.self.inside in
-      rw (← c.self.view_is) (with-turns _ _ _ _ _ _ (same-turns (hash_by g.C.Hasher.BuildHasher.build_hasher g.C.Hasher.Hasher.Hasher.write g.C.Hasher.Hasher.Hasher.finish g.K.Hash.hash_input s.behaviour.hasher) _ _ _ _ c.in-Err.ensures.unchanged.0 c.in-Err.ensures.unchanged.1));
-}
+      rw (← c.self.view_is) (with-turns _ _ _ _ _ _ (same-turns (hash_by g.C.Hasher.BuildHasher.build_hasher g.C.Hasher.Hasher.Hasher.write g.C.Hasher.Hasher.Hasher.finish g.K.Hash.hash_input s.behaviour.hasher) _ _ _ _ c.in_err-begun.ensures.unchanged.0 c.in_err-begun.ensures.unchanged.1));
+})
 
 pub returns-in-Wait-clause-begins : goal.returns-in-Wait-clause-begins
 returns-in-Wait-clause-begins g c said unacceptable = record {
@@ -57,7 +58,7 @@ returns-in-Wait-clause-begins g c said unacceptable = record {
       let keeps = table-keeps eq laws g.V.Clone.is_clone hash_of alike s.turns.opened.entries s.turns.ended.entries (turns steps) there.turns in
       let sound = sound-turns eq laws given steps there.legal in
       let counted = ap (λ (b : Books _ _). b.next_number) there.books in
-      let begins = c.in-Ok.ensures.begins hash_of (turns steps) alike hash sound keeps in
+      let begins = c.in_ok-begun.ensures.begins hash_of (turns steps) alike hash sound keeps in
       let told = waits-told eq g.V.Clone.is_clone hash_of _ _ q _ _ _ _ c.in-Wait.ticket (rw c.in-Wait.is at begins) in
       (told.2, gives-wait eq g.V.Clone.is_clone g.V.Clone.is_infallible given steps key c.args.kind said c.args.now c.requires.initializer none sound.0 told.0 told.1 told.4 (ticket_name c.in-Wait.ticket) told.3);
   stands = λ given steps stands.
@@ -74,7 +75,7 @@ returns-in-Wait-clause-begins g c said unacceptable = record {
       let keeps = table-keeps eq laws g.V.Clone.is_clone hash_of alike s.turns.opened.entries s.turns.ended.entries (turns steps) there.turns in
       let sound = sound-turns eq laws given steps there.legal in
       let counted = ap (λ (b : Books _ _). b.next_number) there.books in
-      let begins = c.in-Ok.ensures.begins hash_of (turns steps) alike hash sound keeps in
+      let begins = c.in_ok-begun.ensures.begins hash_of (turns steps) alike hash sound keeps in
       let told = waits-told eq g.V.Clone.is_clone hash_of _ _ q _ _ _ _ c.in-Wait.ticket (rw c.in-Wait.is at begins) in
       let becomes = looks-in-vain eq laws _ s.table _ s.latest s.next_number given steps there said key c.args.now none _ (estimates-noted g.C.Frequency.FrequencySource.noted g.C.Frequency.FrequencySource.count s.housekeeper.source c.note.new.self c.args.hash _ c.note.ensures hash) in
       rw c.max-now.ensures (move-stands eq given _ _ _ steps there (Begin key c.args.kind said c.args.now) (look_event said key c.args.now ∷ []) (Waited told.0.name.number)
@@ -100,7 +101,7 @@ returns-in-Run-clause-begins g c said unacceptable = record {
       let keeps = table-keeps eq laws g.V.Clone.is_clone hash_of alike s.turns.opened.entries s.turns.ended.entries (turns steps) there.turns in
       let sound = sound-turns eq laws given steps there.legal in
       let counted = ap (λ (b : Books _ _). b.next_number) there.books in
-      let begins = c.in-Ok.ensures.begins hash_of (turns steps) alike hash sound keeps in
+      let begins = c.in_ok-begun.ensures.begins hash_of (turns steps) alike hash sound keeps in
       let told = runs-told eq g.V.Clone.is_clone hash_of _ _ q _ _ _ _ c.in-Run.turn (rw c.in-Run.is at begins) in
       gives-run eq g.V.Clone.is_clone g.V.Clone.is_infallible given steps key c.args.kind said c.args.now c.requires.initializer none sound.0 told.0 (λ out. told.2 (counted ∙ out)) (turn_name c.in-Run.turn) (rw counted at told.1);
   stands = λ given steps stands.
@@ -117,7 +118,7 @@ returns-in-Run-clause-begins g c said unacceptable = record {
       let keeps = table-keeps eq laws g.V.Clone.is_clone hash_of alike s.turns.opened.entries s.turns.ended.entries (turns steps) there.turns in
       let sound = sound-turns eq laws given steps there.legal in
       let counted = ap (λ (b : Books _ _). b.next_number) there.books in
-      let begins = c.in-Ok.ensures.begins hash_of (turns steps) alike hash sound keeps in
+      let begins = c.in_ok-begun.ensures.begins hash_of (turns steps) alike hash sound keeps in
       let told = runs-told eq g.V.Clone.is_clone hash_of _ _ q _ _ _ _ c.in-Run.turn (rw c.in-Run.is at begins) in
       let becomes = looks-in-vain eq laws _ s.table _ s.latest s.next_number given steps there said key c.args.now none _ (estimates-noted g.C.Frequency.FrequencySource.noted g.C.Frequency.FrequencySource.count s.housekeeper.source c.note.new.self c.args.hash _ c.note.ensures hash) in
       rw c.max-now.ensures (move-stands eq given _ _ _ steps there (Begin key c.args.kind said c.args.now) (Drawn ∷ look_event said key c.args.now ∷ []) _

@@ -1,26 +1,26 @@
-use Rattle.std.proofs.Common.{Some, None, true}
-use Rattle.moka_model.specs.Calls.{BeginCompute}
+use Rattle.std.proofs.Common.{Some, None}
 use Rattle.moka_turns.specs.Handles.{turn_name}
-use Rattle.moka_state.proofs.ComputeForms.{compute-form-refused}
+use Rattle.moka_state.proofs.Results.{err-is}
 use Rattle.moka_state.proofs.state.State.compute_with.Goals as goal
 
-pub returns-in-Err-clause-form : goal.returns-in-Err-clause-form
-returns-in-Err-clause-form g c =
-    let begins = rw c.in-Err.is at c.begin_compute_now.ensures.begins in (
+pub returns-in_err-turn-clause-form : goal.returns-in_err-turn-clause-form
+returns-in_err-turn-clause-form g c =
+    let begins = c.in_err-turn.ensures.begins in
+    rw (err-is c.from_residual.result _ c.from_residual.ensures.1) (
       None,
       None,
-      λ settings steps stands. compute-form-refused g.K.PartialEq.eq g.V.Clone.is_clone g.V.Clone.is_infallible settings steps (BeginCompute c.args.key true c.args.now) _ c.args.now None c.in-Err.cause (begins.reply settings steps stands),
+      begins.reply,
       tt,
       begins.refused,
     )
 
 pub returns-clause-form : goal.returns-clause-form
 returns-clause-form g c =
-    let begins = rw c.in-Ok.is at c.begin_compute_now.ensures.begins in
+    let begins = c.in_ok-turn.ensures.begins in
     let ends = c.end_compute.ensures.ends in (
-      c.in-Ok.begun.shown,
+      c.in_ok-turn.field-0.shown,
       Some c.f.result,
-      λ settings steps stands. (turn_name c.in-Ok.begun.turn, begins.reply settings steps stands, ends settings _ (begins.stands settings steps stands)),
+      λ settings steps stands. (turn_name c.in_ok-turn.field-0.turn, begins.reply settings steps stands, ends settings _ (begins.stands settings steps stands)),
       c.f.ensures,
       tt,
     )

@@ -54,7 +54,7 @@ returns-in_default-entry-clause-looks g c = (
         let there = rw (← c.self.view_is) at stands in
         let accepts = rw c.max-now.ensures at c.in-Some.ensures.accepts.1 in
         let it = accepts-live eq laws _ s.table _ s.latest s.next_number given steps there s.housekeeper.lives refl c.self.invariant.0.dated hash_of alike c.self.invariant.0.hashed _ _ key c.args.now c.args.hash hash (omega (arith, c.max-now.ensures)) c.in-Some.ensures.accepts.0 c.in-Some.number accepts in
-        (it.2, refl);
+        (it.2, (refl, rw it.3 refl));
     stands = rw (← c.self.view_is) refl;
   },
 )

@@ -12,7 +12,7 @@ use Rattle.moka_expiration.proofs.Callers.{alive-kept, cause-kept}
 use Rattle.moka_table.specs.Table.{stored_write}
 use Rattle.moka_table.proofs.Callers.{of-row}
 use Rattle.moka_state.proofs.Becoming.{becomes-unremoved, becomes-removed}
-use Rattle.moka_state.proofs.ComputeForms.{err-is}
+use Rattle.moka_state.proofs.Results.{err-is}
 use Rattle.moka_state.proofs.Finds.{live-row, live-absent}
 use Rattle.moka_state.proofs.Alike.{hash-alike}
 use Rattle.moka_state.proofs.Held.{same-key, held-absent}

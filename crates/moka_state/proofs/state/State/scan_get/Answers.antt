@@ -7,7 +7,7 @@ use Rattle.moka_expiration.specs.ExpirationPolicy.{IsDated}
 use Rattle.moka_expiration.proofs.Callers.{alive-kept}
 use Rattle.moka_table.specs.Table.{stored_write}
 use Rattle.moka_table.proofs.Callers.{of-row}
-use Rattle.moka_state.proofs.ComputeForms.{err-is}
+use Rattle.moka_state.proofs.Results.{err-is}
 use Rattle.moka_state.proofs.Finds.{live-row, live-absent}
 use Rattle.moka_state.proofs.Held.{same-key}
 use Rattle.moka_state.proofs.LiveReads.{if-some-at, in-any-case}
