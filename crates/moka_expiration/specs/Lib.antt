@@ -1,3 +1,4 @@
 pub mod Behaviour
 pub mod ExpirationPolicy
+pub mod Plain
 pub mod StateData

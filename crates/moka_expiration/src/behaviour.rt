@@ -6,8 +6,9 @@ ghost use Rattle.moka_model.specs.Lives.{rest, given};
 ghost use Rattle.moka_policy.specs.Policy.{is_lru};
 ghost use Rattle.moka_expiration.specs.ExpirationPolicy.{own_life, own_of};
 ghost use Rattle.moka_expiration.specs.Behaviour.{BehaviourData, data_with};
+ghost use Rattle.moka_expiration.specs.Plain.{IsPlain};
 
-use crate::expiration_policy::{own_life_from, rest};
+use crate::expiration_policy::{ExpirationPolicy, own_life_from, rest};
 use crate::view::BehaviourView;
 use moka_policy::policy::{CacheTypes, EvictionPolicy, Expiry, Weigher};
 use moka_rows::rows::{EntryInfo, OwnLife};
@@ -157,5 +158,22 @@ impl<K: Hash + Drop, V: Clone, C: CacheTypes<K, V>> Behaviour<K, V, C> {
             None => left,
         };
         own_life_from(life, now)
+    }
+
+    /// Returns whether nothing limits the life of a value with this metadata. Then no access and no
+    /// overwrite gives the entry a lifetime of its own or a deadline.
+    #[inline(always)]
+    pub fn is_plain(&self, lives: &ExpirationPolicy, info: EntryInfo) -> bool
+        ensures { result ≡ true → IsPlain self.now lives.now info }
+    {
+        match (
+            &self.expiry,
+            lives.time_to_live,
+            lives.time_to_idle,
+            info.own_life,
+        ) {
+            (None, None, None, None) => true,
+            _ => false,
+        }
     }
 }

@@ -75,7 +75,7 @@ module _ {K V : Type 0} where
       go (Some d) has rest = come d (nat_le d now) refl has rest
 
 -- without deadlines there is none to remove
-without-none : (n : ℕ) (o : Option ℕ) → without_deadline n o [] ≡ []
+pub without-none : (n : ℕ) (o : Option ℕ) → without_deadline n o [] ≡ []
 without-none n None = refl
 without-none n (Some d) = refl
 

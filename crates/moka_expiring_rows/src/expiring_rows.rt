@@ -202,6 +202,12 @@ impl<K: Eq + Drop, V: Drop> RowStore<K, V> for ExpiringRows<K, V> {
         self.rows.is_admitted(number)
     }
 
+    /// Returns whether a row has had a deadline.
+    #[inline(always)]
+    fn has_deadlines(&self) -> bool {
+        self.has_deadlines
+    }
+
     /// Makes room for this many more rows. It makes room for the deadlines of all rows if a row has
     /// had one, or if there is no row yet. Then it also lists them anew, if the order is not whole.
     ///
@@ -262,6 +268,9 @@ impl<K: Eq + Drop, V: Drop> RowStore<K, V> for ExpiringRows<K, V> {
     #[inline(always)]
     fn overwrite(&mut self, number: RowId, value: V, info: EntryInfo) -> Previous<V> {
         let taken = self.rows.overwrite(number, value, info);
+        if info.deadline.is_none() && self.deadlines.is_unused() {
+            return taken;
+        }
         let before = deadline_if_admitted(taken.order, taken.info.deadline);
         let after = deadline_if_admitted(taken.order, info.deadline);
         self.is_whole = relist(&mut self.deadlines, self.is_whole, number, before, after);
@@ -323,6 +332,9 @@ impl<K: Eq + Drop, V: Drop> RowStore<K, V> for ExpiringRows<K, V> {
     #[inline(always)]
     fn remove(&mut self, number: RowId) -> (Row<K, V>, Order) {
         let (row, order) = self.rows.remove(number);
+        if self.deadlines.is_unused() {
+            return (row, order);
+        }
         let before = deadline_if_admitted(order, row.info().deadline);
         self.is_whole = delist(&mut self.deadlines, self.is_whole, number, before);
         (row, order)

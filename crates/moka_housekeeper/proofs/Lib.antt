@@ -11,3 +11,6 @@ pub mod VisitLaws
 pub mod Visits
 pub mod Shown
 pub mod Whole
+pub mod Plain
+pub mod Spared
+pub mod ByPlan

@@ -16,6 +16,14 @@ module _ {K V : Type 0} where
   HasPlan (Now slot) c = HasSlot slot c
   HasPlan (AfterFlush lookup key) c = ⊤
 
+  -- The slot of a write by its plan: that of the plan in the same table, or where the key belongs after a flush.
+  abbrev pub IsSlotOf : (K → K → Bool) → ExpirationPolicy → Bool → (ℕ → ℕ) → Option ℕ → Option ℕ → WritePlan K → ℕ → ℕ →
+      Contents K V → Contents K V → WriteSlot K → Type 0
+  IsSlotOf eq lives is_lru frequency_of capacity limit (Now slot) hash at old new it = (it ≡ slot) × (new ≡ old)
+  IsSlotOf eq lives is_lru frequency_of capacity limit (AfterFlush lookup own) hash at old new it =
+      (is_cut : Bool) × IsMaintainedUpTo lives is_lru frequency_of capacity at limit old new is_cut
+      × IsSlotNow eq hash lookup own (entries new) it
+
   -- A value is written by its plan, after a flush if one comes first.
   abbrev pub WritesAt : (K → K → Bool) → Behaviour K V → ExpirationPolicy → (ℕ → ℕ) → Option ℕ → Option ℕ → WritePlan K →
       NewValue V → Contents K V → Contents K V → Bool → Type 0

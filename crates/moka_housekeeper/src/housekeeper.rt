@@ -1,21 +1,22 @@
 //! What the maintenance of a cache depends on, beside its rows and its policy.
 ghost use Rattle.std.specs.Prelude.{◌≡◌, ◌≤◌, ◌<◌, IsSome, IfSome, false, None};
 ghost use Rattle.moka_policy.specs.Policy.{is_lru};
-ghost use Rattle.moka_table.specs.Table.{entries};
+ghost use Rattle.moka_table.specs.Table.{entries, UsesRow};
 ghost use Rattle.moka_expiration.specs.ExpirationPolicy.{AreDated};
 ghost use Rattle.moka_housekeeper.specs.Maintain.{IsMaintained, IsMaintainedUpTo};
-ghost use Rattle.moka_housekeeper.specs.Write.{HasPlan, WritesAt};
+ghost use Rattle.moka_table.specs.WriteSlot.{HasSlot};
+ghost use Rattle.moka_housekeeper.specs.Write.{HasPlan, IsSlotOf, WritesAt};
 ghost use Rattle.moka_housekeeper.specs.Hit.{UsesAt};
-ghost use Rattle.moka_rows.specs.Rows.{row_under};
+ghost use Rattle.moka_rows.specs.Rows.{row_under, touched, plain_access};
 
 use crate::maintain::maintain_up_to;
 use moka_expiration::behaviour::Behaviour;
 use moka_expiration::expiration_policy::ExpirationPolicy;
 use moka_expiration::view::BehaviourView;
 use moka_policy::policy::{CacheTypes, EvictionPolicy, FrequencySource};
-use moka_rows::rows::{RowId, RowStore};
+use moka_rows::rows::{Access, RowId, RowStore};
 use moka_table::table::Table;
-use moka_table::write_slot::{NewValue, WritePlan};
+use moka_table::write_slot::{NewValue, WritePlan, WriteSlot};
 use std::hash::Hash;
 
 /// What a maintenance depends on, beside the rows and the policy.
@@ -93,12 +94,41 @@ impl<F: FrequencySource> Housekeeper<F> {
             (F.count self.now.source) self.now.max_capacity flush_limit plan new table.old table.new
             result }
     {
+        let slot = self.slot_of(
+            table,
+            plan,
+            new.hash,
+            new.now,
+            behaviour.policy(),
+            flush_limit,
+        );
+        table.write(slot, new, behaviour, &self.lives)
+    }
+
+    /// Returns the slot of a write by its plan. If the plan says so, it runs a flush within
+    /// `flush_limit` first.
+    #[inline(always)]
+    fn slot_of<K: Eq + Drop, V: Drop, R: RowStore<K, V>>(
+        &self,
+        table: &mut Table<K, V, R>,
+        plan: WritePlan<K>,
+        hash: u64,
+        now: u64,
+        policy: EvictionPolicy,
+        flush_limit: Option<u64>,
+    ) -> WriteSlot<K>
+        requires { HasPlan plan table.old }
+        ensures slot { AreDated self.now.lives (entries table.old) → IsSlotOf K.eq self.now.lives
+            (is_lru policy) (F.count self.now.source) self.now.max_capacity flush_limit
+            plan hash now table.old table.new result }
+        ensures stored { HasSlot result table.new }
+        ensures room { table.old.room ≤ table.new.room }
+    {
         match plan {
-            WritePlan::Now(slot) => table.write(slot, new, behaviour, &self.lives),
+            WritePlan::Now(slot) => slot,
             WritePlan::AfterFlush { lookup, key } => {
-                self.maintain_up_to(table, behaviour.policy(), new.now, flush_limit);
-                let slot = table.slot_now(lookup, key, new.hash);
-                table.write(slot, new, behaviour, &self.lives)
+                self.maintain_up_to(table, policy, now, flush_limit);
+                table.slot_now(lookup, key, hash)
             }
         }
     }
@@ -124,12 +154,58 @@ impl<F: FrequencySource> Housekeeper<F> {
         ensures lives { self.new.lives ≡ self.old.lives }
         ensures max_capacity { self.new.max_capacity ≡ self.old.max_capacity }
     {
+        self.source.note(hash);
+        if behaviour.is_plain(&self.lives, table.row(number).info()) {
+            touch_plain(table, number, now);
+        } else {
+            self.touch_dated(table, number, now, behaviour);
+        }
+    }
+
+    /// Applies an access to a row whose value is live. The entry may get another lifetime of its
+    /// own, and another deadline.
+    ///
+    /// It stands apart so that an access to a row without lives need not keep what this one needs.
+    #[inline(never)]
+    fn touch_dated<K: Hash + Drop, V: Clone, C: CacheTypes<K, V>, R: RowStore<K, V>>(
+        &self,
+        table: &mut Table<K, V, R>,
+        number: RowId,
+        now: u64,
+        behaviour: &Behaviour<K, V, C>,
+    )
+        requires { IsSome (row_under number (entries table.old)) }
+        ensures used { IfSome (row_under number (entries table.old)) (λ row.
+            UsesAt (⟦<C as BehaviourView<K, V>>⟧.behaviour behaviour.now) self.now.lives
+            number row now table.old table.new) }
+        ensures notices { table.new.notices ≡ table.old.notices }
+    {
         let row = table.row(number);
         let info = row.info();
         let own_life = behaviour.life_of_hit(&row.key, &row.value, info, now);
         let last_accessed = info.last_accessed.max(now);
         let touch = self.lives.touch_of(info, last_accessed, own_life);
         table.touch(number, touch);
-        self.source.note(hash);
     }
+}
+
+/// Applies an access to a row whose life nothing limits.
+#[inline(always)]
+fn touch_plain<K: Eq + Drop, V: Drop, R: RowStore<K, V>>(
+    table: &mut Table<K, V, R>,
+    number: RowId,
+    now: u64,
+)
+    requires { IsSome (row_under number (entries table.old)) }
+    ensures used { IfSome (row_under number (entries table.old)) (λ row.
+        UsesRow number (touched (plain_access now row)) table.old table.new) }
+    ensures notices { table.new.notices ≡ table.old.notices }
+{
+    let last_accessed = table.row(number).info().last_accessed.max(now);
+    let touch = Access {
+        last_accessed,
+        own_life: None,
+        deadline: None,
+    };
+    table.touch(number, touch);
 }

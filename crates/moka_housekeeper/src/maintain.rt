@@ -58,7 +58,7 @@ pub fn maintain_up_to<K: Eq + Drop, V: Drop, R: RowStore<K, V>, F: FrequencySour
     if evict_dead_admitted(table, now, &mut limit, visits) {
         return true;
     }
-    if evict_dead_waiting(table, now, &mut limit, visits) {
+    if sweep_waiting(table, now, &mut limit, visits) {
         return true;
     }
     table.clear_may_hide();
@@ -161,8 +161,32 @@ fn evict_dead_by_walk<K: Eq + Drop, V: Drop, R: RowStore<K, V>>(
     false
 }
 
-/// Removes the invalidated and the expired pending rows, in arrival order. Visits each pending row.
-/// Returns `true` if the limit stopped it.
+/// Removes the invalidated and the expired pending rows, in arrival order. Returns `true` if the
+/// limit stopped it.
+///
+/// Visits each pending row, or none if no row of the table can be dead.
+#[inline(always)]
+fn sweep_waiting<K: Eq + Drop, V: Drop, R: RowStore<K, V>>(
+    table: &mut Table<K, V, R>,
+    now: u64,
+    limit: &mut Option<u64>,
+    visits: &mut u128,
+) -> bool
+    ensures swept { DoesParts notice_dead limit.old
+        (dead_waiting (λ p. not (is_dead now p)) table.old.admitted [] table.old.waiting)
+        table.old table.new limit.new result }
+    ensures visited { visits.new ≤ visits.old + length table.old.waiting }
+    ensures room { table.old.room ≤ table.new.room }
+{
+    if table.may_be_dead() {
+        evict_dead_waiting(table, now, limit, visits)
+    } else {
+        false
+    }
+}
+
+/// Removes the invalidated and the expired pending rows by a walk over all of them, in arrival
+/// order. Returns `true` if the limit stopped it.
 fn evict_dead_waiting<K: Eq + Drop, V: Drop, R: RowStore<K, V>>(
     table: &mut Table<K, V, R>,
     now: u64,
@@ -408,6 +432,9 @@ fn fits(capacity: Option<u64>, more: u32, weight: u128) -> bool
 {
     match capacity {
         None => true,
-        Some(capacity) => weight.saturating_add(u128::from(more)) <= u128::from(capacity),
+        Some(capacity) => match capacity.checked_sub(u64::from(more)) {
+            None => false,
+            Some(left) => weight <= u128::from(left),
+        },
     }
 }

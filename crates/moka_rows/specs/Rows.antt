@@ -1,7 +1,8 @@
 -- Rows with their numbers, in an order.
-use Rattle.std.specs.Prelude.{◌≡◌, ℕ, ◌+◌, ◌≤◌, ◌==◌, Bool, true, ◌&&◌, ◌||◌, if◌then◌else◌, List, [], ◌∷◌, ◌++◌, filter, not}
+use Rattle.std.specs.Prelude.{◌≡◌, ℕ, ◌+◌, ◌≤◌, ◌==◌, Bool, true, false, ◌&&◌, ◌||◌, if◌then◌else◌, List, [], ◌∷◌, ◌++◌, filter, not, max}
 use Rattle.std.specs.Prelude.{Option, Some, None, MatchOption}
 use Rattle.std.specs.Arc.{arc_value}
+use Rattle.std.specs.List.{AllByRecursion}
 use Rattle.moka_model.specs.declared.notification.RemovalCause.{RemovalCause}
 use Rattle.moka_model.specs.declared.notification.RemovalCause.TheVariants.{Expired, Explicit}
 use Rattle.moka_model.specs.Lives.{has_come}
@@ -51,6 +52,17 @@ IsOrderOf n admitted order = MatchOption (row_under n admitted) (order ≡ Waiti
 abbrev pub used_at : Access → EntryInfo → EntryInfo
 used_at touch info = record info { last_accessed = touch.last_accessed; own_life = touch.own_life; deadline = touch.deadline }
 
+-- The metadata of a value that was written at a moment, has no lifetime of its own and never expires.
+abbrev pub written : ℕ → ℕ → EntryInfo
+written weight at = record {
+  last_modified = at;
+  last_accessed = at;
+  own_life = None;
+  deadline = None;
+  policy_weight = weight;
+  is_hidden = false;
+}
+
 -- The cause of a removal of a value at a moment: `Explicit` if it is invalidated, `Expired` if its deadline has come,
 -- and else the cause of the call.
 abbrev pub cause_at : RemovalCause → EntryInfo → ℕ → RemovalCause
@@ -68,6 +80,14 @@ module _ {K V : Type 0} where
   -- The row after it was invalidated.
   abbrev pub hidden : Row K V → Row K V
   hidden row = record row { info = record row.info { is_hidden = true } }
+
+  -- An access at a moment after which the value has no lifetime of its own and never expires.
+  abbrev pub plain_access : ℕ → Row K V → Access
+  plain_access at row = record { last_accessed = max row.info.last_accessed at; own_life = None; deadline = None }
+
+  -- No row has a deadline.
+  abbrev pub AreUndated : List (ℕ × Row K V) → Type 0
+  AreUndated rows = AllByRecursion (λ p. p.1.info.deadline ≡ None) rows
 
   -- Whether a row is expired at a moment: its deadline has come.
   abbrev pub is_expired : ℕ → ℕ × Row K V → Bool

@@ -131,6 +131,11 @@ impl<K: Eq + Drop, V: Drop> RowStore<K, V> for ListRows<K, V> {
         }
     }
 
+    /// Returns `true`: no row is asked for its deadline.
+    fn has_deadlines(&self) -> bool {
+        true
+    }
+
     /// Makes room for `more` more rows. No number is ever given out twice.
     ///
     /// # Errors

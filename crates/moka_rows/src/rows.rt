@@ -8,10 +8,10 @@ ghost use Rattle.std.specs.Prelude.{List, [], ◌∷◌, ◌++◌, length};
 ghost use Rattle.std.specs.Prelude.{IsSome, IfSome, IfNone, OnOk, OnSome, Some, None, MatchOption};
 ghost use Rattle.moka_model.specs.Lives.{has_come};
 ghost use Rattle.moka_rows.specs.Rows.{row_under, with_row, without_row, first_number};
-ghost use Rattle.moka_rows.specs.Rows.{used_at, touched, overwritten, hidden, cause_at};
+ghost use Rattle.moka_rows.specs.Rows.{written, used_at, touched, overwritten, hidden, cause_at};
 ghost use Rattle.moka_rows.specs.Rows.{number_after, expired_at};
 ghost use Rattle.moka_rows.specs.Rows.{IsOrderOf, AccessesRow, RemovesRow, TakesFirst};
-ghost use Rattle.moka_rows.specs.Rows.{IsRowOf, NoneIsRowOf, NumbersDiffer};
+ghost use Rattle.moka_rows.specs.Rows.{IsRowOf, NoneIsRowOf, NumbersDiffer, AreUndated};
 ghost use Rattle.moka_rows.specs.Visits.{one_more};
 
 use crate::packed::PackedEntryInfo;
@@ -66,6 +66,21 @@ pub struct Access {
 }
 
 impl EntryInfo {
+    /// Returns the metadata of a value that is written at `now` and never expires.
+    #[inline(always)]
+    pub fn new(policy_weight: u32, now: u64) -> EntryInfo
+        ensures { result ≡ written policy_weight now }
+    {
+        EntryInfo {
+            last_modified: now,
+            last_accessed: now,
+            own_life: None,
+            deadline: None,
+            policy_weight,
+            is_hidden: false,
+        }
+    }
+
     /// Returns whether the value is expired at `now`: it is from its deadline on.
     #[inline(always)]
     pub fn is_expired(self, now: u64) -> bool
@@ -251,6 +266,10 @@ pub trait RowStore<K: Eq, V>: Drop {
         requires { IsSome (row_under number (admitted self.now ++ waiting self.now)) }
         ensures { MatchOption (row_under number (admitted self.now))
             (result ≡ false) (λ _. result ≡ true) };
+
+    /// Returns whether a row may have a deadline. If not, none has.
+    fn has_deadlines(&self) -> bool
+        ensures { result ≡ false → AreUndated (admitted self.now ++ waiting self.now) };
 
     /// Makes room for this many more rows. Every row stays as it was, also if the call fails.
     ///

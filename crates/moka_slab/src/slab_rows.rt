@@ -194,6 +194,12 @@ impl<K: Eq + Drop, V: Drop> RowStore<K, V> for SlabRows<K, V> {
         self.links.is_admitted(number)
     }
 
+    /// Returns `true`: a row is not asked for its deadline.
+    #[inline(always)]
+    fn has_deadlines(&self) -> bool {
+        true
+    }
+
     /// Makes room for this many more rows.
     ///
     /// # Errors

@@ -5,3 +5,4 @@ pub mod Weights
 pub mod HiddenWhere
 mod KeyWalks
 pub mod Walks
+pub mod Plain

@@ -17,7 +17,9 @@ use Rattle.moka_table.specs.declared.write_slot.WritePlan.TheVariants.{Now, Afte
 use Rattle.moka_table.specs.declared.write_slot.NewValue.{NewValue}
 use Rattle.moka_expiration.specs.declared.expiration_policy.ExpirationPolicy.{ExpirationPolicy}
 use Rattle.moka_rows.specs.Rows.{row_under, overwritten, cause_at, IsRowOf, NoneIsRowOf}
+use Rattle.moka_expiration.specs.Behaviour.{BehaviourData}
 use Rattle.moka_expiration.specs.ExpirationPolicy.{own_of, IsDated}
+use Rattle.moka_expiration.specs.Plain.{IsPlain}
 use Rattle.moka_table.specs.Lookup.{IsLookupOf}
 use Rattle.moka_table.specs.Table.{Contents, entries, UsesRow}
 
@@ -27,6 +29,11 @@ IsSlotFor key (Stored number stored) (Occupied m k) = (m ≡ number) × (k ≡ s
 IsSlotFor key (Stored number stored) (Vacant k) = ⊥
 IsSlotFor key Absent (Occupied m k) = ⊥
 IsSlotFor key Absent (Vacant k) = arc_value k ≡ key
+
+-- The slot is over a row.
+abbrev pub IsOver : {K : Type 0} → WriteSlot K → Type 0
+IsOver (Occupied number key) = ⊤
+IsOver (Vacant key) = ⊥
 
 module _ {K V : Type 0} where
   -- That slot after some rows were removed, among the rows that are left.
@@ -41,6 +48,11 @@ module _ {K V : Type 0} where
   abbrev pub HasSlot : WriteSlot K → Contents K V → Type 0
   HasSlot (Occupied number key) c = IsSome (row_under number (entries c))
   HasSlot (Vacant key) c = ⊤
+
+  -- The slot is over a value whose life nothing limits.
+  abbrev pub IsOverPlain : {H W X : Type 0} → BehaviourData H W X → ExpirationPolicy → WriteSlot K → Contents K V → Type 0
+  IsOverPlain behaviour lives (Occupied number key) c = IfSome (row_under number (entries c)) (λ row. IsPlain behaviour lives row.info)
+  IsOverPlain behaviour lives (Vacant key) c = ⊥
 
   -- The own lifetime of a value at a slot: that of an update over a live value, and else that of a creation.
   abbrev pub IsOwnIn : Behaviour K V → WriteSlot K → V → ℕ → Contents K V → Option OwnLife → Type 0

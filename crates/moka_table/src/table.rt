@@ -3,7 +3,7 @@ ghost use Rattle.std.specs.Prelude.{◌≡◌, ℕ, ◌+◌, ◌-◌, ◌<◌, �
 ghost use Rattle.std.specs.Option.{option_to_list};
 ghost use Rattle.std.specs.VecDeque.{deque_len, deque_capacity};
 ghost use Rattle.moka_model.specs.Maintenance.{total};
-ghost use Rattle.moka_rows.specs.Rows.{row_under, with_row, without_row, other, touched, overwritten, hidden, cause_at, first_number, number_after, expired_at, IsRowOf, NoneIsRowOf, NumbersDiffer};
+ghost use Rattle.moka_rows.specs.Rows.{row_under, with_row, without_row, other, touched, overwritten, hidden, cause_at, first_number, number_after, expired_at, IsRowOf, NoneIsRowOf, NumbersDiffer, AreUndated};
 ghost use Rattle.moka_rows.specs.Visits.{one_more};
 ghost use Rattle.moka_table.specs.Lookup.{IsLookupOf};
 ghost use Rattle.moka_table.specs.Table.{Contents, entries, weight_of, weight_in, AreShown, SameRows, UsesRow, TakesRow, Notifies, EvictsOne, IsConsistent};
@@ -42,6 +42,9 @@ impl Weights {
         ensures changed { weight_in order result + before ≡ weight_in order self + after }
         ensures others { weight_in (other order) result ≡ weight_in (other order) self }
     {
+        if before == after {
+            return self;
+        }
         match order {
             Order::Admitted => Weights {
                 admitted: self.admitted - u128::from(before) + u128::from(after),
@@ -407,6 +410,16 @@ impl<K: Eq + Drop, V: Drop, R: RowStore<K, V>> Table<K, V, R> {
         ensures shown { result ≡ false → AreShown (entries self.now) }
     {
         self.may_hide
+    }
+
+    /// Returns whether a row may be invalidated or have a deadline. If not, no row is or has. Takes
+    /// constant time.
+    #[inline(always)]
+    pub fn may_be_dead(&self) -> bool
+        ensures { result ≡ false
+            → AreShown (entries self.now) × AreUndated (entries self.now) }
+    {
+        self.may_hide() || self.rows.has_deadlines()
     }
 
     /// Records that no row is invalidated. Changes no row.

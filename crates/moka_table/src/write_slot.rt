@@ -1,8 +1,9 @@
 //! The slots of writes. What a write allocates is allocated before it changes anything.
-ghost use Rattle.std.specs.Prelude.{◌≡◌, ◌<◌, false, IfOk, IfErr, OnOk};
-ghost use Rattle.moka_table.specs.WriteSlot.{IsSlotFor, IsSlotNow, HasSlot, IsInfoOf, Puts, IsPlanOf, Writes, is_over_live};
+ghost use Rattle.std.specs.Prelude.{◌≡◌, ◌<◌, ℕ, true, false, IfOk, IfErr, OnOk};
+ghost use Rattle.moka_table.specs.WriteSlot.{IsSlotFor, IsSlotNow, HasSlot, IsOver, IsOverPlain, IsInfoOf, Puts, IsPlanOf, Writes, is_over_live};
 ghost use Rattle.moka_expiration.specs.ExpirationPolicy.{IsDated};
 ghost use Rattle.moka_table.specs.Table.{entries, SameRows};
+ghost use Rattle.moka_rows.specs.Rows.{written};
 
 use crate::into_arc::{IntoArc, UnusedKey};
 use crate::table::{Lookup, Table};
@@ -202,6 +203,46 @@ impl<K: Hash + Drop, V: Clone, R: RowStore<K, V>> Table<K, V, R> {
         (lives.with_deadline(info), is_over_live)
     }
 
+    /// Returns whether a slot is over a value whose life nothing limits.
+    #[inline(always)]
+    fn is_over_plain<C: CacheTypes<K, V>>(
+        &self,
+        slot: &WriteSlot<K>,
+        behaviour: &Behaviour<K, V, C>,
+        lives: &ExpirationPolicy,
+    ) -> bool
+        requires { HasSlot slot.now self.now }
+        ensures { result ≡ true → IsOverPlain behaviour.now lives.now slot.now self.now }
+    {
+        match slot {
+            WriteSlot::Occupied { number, .. } => {
+                behaviour.is_plain(lives, self.row(*number).info())
+            }
+            WriteSlot::Vacant { .. } => false,
+        }
+    }
+
+    /// Writes a value whose life nothing limits over a stored one. Returns whether the value that it
+    /// replaces was live.
+    #[inline(always)]
+    fn overwrite_plain(&mut self, slot: WriteSlot<K>, value: V, weight: u32, now: u64) -> bool
+        requires over { IsOver slot }
+        requires stored { HasSlot slot self.old }
+        requires room { 0 < self.old.room }
+        ensures puts { (hash : ℕ) → Puts slot hash value (written weight now) self.old self.new }
+        ensures over { result ≡ is_over_live slot now self.old }
+        ensures may_hide { self.new.may_hide ≡ self.old.may_hide }
+    {
+        match slot {
+            WriteSlot::Occupied { number, key } => {
+                let is_live = !self.row(number).info().is_dead(now);
+                self.overwrite(number, key, value, EntryInfo::new(weight, now));
+                is_live
+            }
+            WriteSlot::Vacant { .. } => unreachable!(),
+        }
+    }
+
     /// Writes a value to a slot, and returns whether a live value was there. It uses the room
     /// that was made and does not allocate.
     #[inline(always)]
@@ -223,6 +264,9 @@ impl<K: Hash + Drop, V: Clone, R: RowStore<K, V>> Table<K, V, R> {
             weight,
             now,
         } = new;
+        if self.is_over_plain(&slot, behaviour, lives) {
+            return self.overwrite_plain(slot, value, weight, now);
+        }
         let (info, is_over_live) = self.info_of(&slot, &value, weight, now, behaviour, lives);
         self.put(slot, hash, value, info);
         is_over_live

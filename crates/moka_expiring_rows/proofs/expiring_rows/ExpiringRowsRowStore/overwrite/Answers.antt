@@ -1,15 +1,32 @@
-use Rattle.std.proofs.Common.{◌≡◌, ◌++◌, None, ◌∙◌, ap, sym}
+use Rattle.std.proofs.Common.{◌≡◌, ◌++◌, rules, None, ◌∙◌, ap, sym}
 use Rattle.moka_rows.specs.Rows.{overwritten}
 use Rattle.moka_expiry_index.specs.ExpiryIndex.{order_of}
 use Rattle.moka_expiring_rows.specs.RowDeadlines.{is_of_admitted, IsNoted}
-use Rattle.moka_rows.proofs.Callers.{each-at}
-use Rattle.moka_expiring_rows.proofs.RowDeadlineLemmas.{listed-used, by-order, some-row}
+use Rattle.moka_rows.proofs.Callers.{each-at, each-used}
+use Rattle.moka_expiring_rows.proofs.RowDeadlineLemmas.{listed-used, used-undated, by-order, some-row}
 use Rattle.moka_expiring_rows.proofs.Noted.{noted-used, neither, none-there, none-of, placed-none, stands-none}
 use Rattle.moka_slab.specs.Store.{admitted_in, waiting_in}
 use Rattle.moka_expiring_rows.proofs.expiring_rows.ExpiringRowsRowStore.overwrite.Goals as goal
 
 pub invariant_of-self : goal.invariant_of-self
 invariant_of-self g c =
+    let n = c.args.number in
+    let admitted = admitted_in c.args.self.now.rows in
+    let waiting = waiting_in c.args.self.now.rows in
+    let P = IsNoted c.args.self.now.has_deadlines c.args.self.now.top in
+    let undated : c.args.info.deadline ≡ None = none-there c.args.info.deadline (search (rules, c.is_none.ensures, c.if-is_none.true)) in
+    record {
+      listed = λ whole.
+          let none = c.is_unused.ensures c.if-is_unused.true in
+          none ∙ sym (used-undated n admitted (admitted_in c.overwrite-taken.new.self) _ _ (overwritten c.args.value c.args.info) (λ _. undated) (sym (c.args.self.now.listed whole) ∙ none) c.overwrite-taken.ensures.after);
+      noted = each-used P n (overwritten c.args.value c.args.info) admitted waiting (admitted_in c.overwrite-taken.new.self) (waiting_in c.overwrite-taken.new.self)
+          (λ r found. (λ none. undated, (each-at P n r (admitted ++ waiting) c.args.self.now.noted found).1)) c.args.self.now.noted c.overwrite-taken.ensures.after;
+      whole = c.args.self.now.whole;
+      begun = c.args.self.now.begun;
+    }
+
+pub invariant_of-self-2 : goal.invariant_of-self-2
+invariant_of-self-2 g c =
     let n = c.args.number in
     let admitted = admitted_in c.args.self.now.rows in
     let waiting = waiting_in c.args.self.now.rows in
