@@ -1,7 +1,7 @@
 //! Measures one cache on one load.
 use crate::load::{Kind, Load};
 use crate::segments::InSegments;
-use crate::subject::{Create, Fold, NoFrequencies, Ours, Subject, Theirs, Unbounded};
+use crate::subject::{Create, Fold, NoFrequencies, Nothing, Ours, Subject, Theirs, Unbounded};
 use moka::policy::{CountTable, EvictionPolicy, FrequencySketch};
 use std::alloc::{AllocError, Global};
 use std::hash::{BuildHasher, BuildHasherDefault, DefaultHasher};
@@ -29,6 +29,8 @@ pub(crate) enum Which {
     Segment,
     /// The same with sixteen segments.
     Segments,
+    /// No cache, to measure the loop by itself.
+    Nothing,
 }
 
 /// The hasher: SipHash with fixed keys, or the kit's fast one.
@@ -81,6 +83,7 @@ fn measure_with_hasher<H: BuildHasher + Default + Drop, R: Wait + Clock + Copy>(
         Which::Sketch => measure_sketch::<H, R>(rt, alloc, load, keys),
         Which::Segment => time_load::<InSegments<H, 1>, R>(rt, alloc, lru, load, keys),
         Which::Segments => time_load::<InSegments<H, 16>, R>(rt, alloc, lru, load, keys),
+        Which::Nothing => time_load::<Nothing, R>(rt, alloc, lru, load, keys),
     }
 }
 

@@ -406,3 +406,30 @@ impl<W: Wait + Drop> Subject for Unbounded<W> {
         Ok(found)
     }
 }
+
+/// No cache: a lookup finds its key, and an insert does nothing.
+#[derive(Drop)]
+pub(crate) struct Nothing;
+
+impl<W: Drop> Create<W> for Nothing {
+    fn create(
+        _alloc: Global,
+        _load: &Load,
+        _policy: EvictionPolicy,
+        _waits: W,
+    ) -> Result<Self, AllocError> {
+        Ok(Nothing)
+    }
+}
+
+impl Subject for Nothing {
+    fn look_up(&mut self, _key: u64, _now: u64) -> Result<bool, AllocError> {
+        Ok(true)
+    }
+
+    fn insert(&mut self, _key: u64, _now: u64) -> Result<(), AllocError> {
+        Ok(())
+    }
+
+    fn settle(&mut self, _now: u64) {}
+}
