@@ -3,6 +3,7 @@
 
 pub mod clock;
 pub mod copies;
+pub mod frequency;
 pub mod meant;
 pub mod ready;
 pub mod recorded;

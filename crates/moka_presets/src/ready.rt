@@ -4,6 +4,7 @@ ghost use Rattle.moka_model.specs.Lives.{Lifetimes, no_lifetimes};
 
 pub use crate::clock::RunningClock;
 use crate::copies::CopiesCompose;
+pub use crate::frequency::NoFrequency;
 pub use crate::recorded::PlainRecorded;
 use moka_policy::policy::{
     CacheTypes, Clock, Expiry, Listener, ManualClock, NoExpiry, NoListener, NoPredicate, NoWeigher,

@@ -1,4 +1,5 @@
-//! The tests of the ready-made types: the running clock, clones of clones, and closures.
+//! The tests of the ready-made types: the running clock, clones of clones, closures, and the source
+//! that counts nothing.
 #![tactic(auto)]
 
 #[cfg(test)]
@@ -7,3 +8,5 @@ mod clocks;
 mod closures;
 #[cfg(test)]
 mod copies;
+#[cfg(test)]
+mod frequencies;
