@@ -1,13 +1,10 @@
 -- A run over several segments loses and doubles nothing: a segment gives out the notices of the replies to the steps that
 -- went to it.
-use Rattle.std.proofs.Common.{◌≡◌, ◌⊎◌, ℕ, zero, suc, ◌+◌, ◌==◌, Bool, true, false, cond, Option, Some, None, option_map, IfSome, List, [], ◌∷◌, ◌++◌, length, map, refl, sym, ap, ◌∙◌, subst, ⊎_elim, length-append, append-nil, append_assoc, arith}
+use Rattle.std.proofs.Common.{◌≡◌, ℕ, ◌+◌, ◌==◌, Bool, true, false, cond, Option, Some, None, option_map, IfSome, List, [], ◌∷◌, ◌++◌, length, map, refl, sym, ap, ◌∙◌, subst, ⊎_elim, length-append, append-nil, append_assoc, arith}
 use Rattle.std.specs.List.{slice_get}
-use Rattle.std.specs.Arc.{arc_value}
 use Rattle.std.specs.Cmp.{IsEquivalence}
 use Rattle.std.proofs.lemmas.Option.{slice_get-map}
 use Rattle.std.proofs.lemmas.Bool.Decides.{eqb_tells}
-use Rattle.moka_model.specs.declared.comp_result.CompResult.TheVariants as results
-use Rattle.moka_model.specs.Entries.{entry_of}
 use Rattle.moka_model.specs.Lives.{Behaviour, Settings}
 use Rattle.moka_model.specs.Events.{Hidden}
 use Rattle.moka_model.specs.Removals.{Removal}
@@ -17,9 +14,7 @@ use Rattle.moka_model.specs.Calls.{Call, Get, ContainsKey, Insert, Invalidate, R
 use Rattle.moka_model.specs.Calls.{OrInsert, Begin, BeginCompute, Finish, Abandon, Collect, Leave, Accepted, after, with_step, without_move}
 use Rattle.moka_model.specs.StandsFor.{Books, StandsFor, books_of}
 use Rattle.moka_model.specs.Conserved.{given_out, IsConserved}
-use Rattle.moka_model.proofs.Callers.{is_conserved, given-by_reply}
-use Rattle.moka_turns.specs.Handles.{name_by}
-use Rattle.moka_table.specs.Table.{removal_of}
+use Rattle.moka_model.proofs.Callers.{is_conserved}
 use Rattle.moka_expiration.specs.Behaviour.{BehaviourData}
 use Rattle.moka_expiration.specs.StateData.{StateData, view_by}
 use Rattle.moka_state.specs.declared.step.Step.{Step}
@@ -28,7 +23,8 @@ use Rattle.moka_state.specs.declared.step.Reply.TheVariants.{Found, Contains, Do
 use Rattle.moka_state.specs.declared.step.Reply.TheVariants.{Entered, Run, Wait, Nothing, Failed, Computed, NotYet, Abandoned, Ended}
 use Rattle.moka_state.specs.Step.{call_of, IsReplyTo, after_reply}
 use Rattle.moka_state.specs.Noticed.{noticed_in}
-use Rattle.moka_segment_model.specs.Segments.{SegmentedSettings, One, Place, goes_to, at_first, segment_of_place, segment_of_key, first_with_notice, list_of, place_of, steps_in, events_of, share_settings, joint_in, AllStandFor}
+use Rattle.moka_state.proofs.Conserved.{given-reply}
+use Rattle.moka_segment_model.specs.Segments.{SegmentedSettings, One, goes_to, at_first, segment_of_place, segment_of_key, first_with_notice, list_of, place_of, steps_in, events_of, share_settings, joint_in, AllStandFor}
 use Rattle.moka_segment_model.proofs.Callers.{steps-here, steps-apart}
 use Rattle.moka_segmented.specs.SegmentedData.{SegmentedData, segmented_view_by}
 use Rattle.moka_segmented.specs.Step.{IsReplyBy, IsReplyIn, IsRunIn, after_reply_in, after_all_in}
@@ -81,32 +77,6 @@ module _ {K V E : Type 0} (eq : K → K → Bool) (settings : Settings K V) wher
   quiet-limited limit at steps = append-nil (given_out eq settings (events_in steps))
 
 module _ {K V C H W X P F L T E S : Type 0} (eq : K → K → Bool) (is_clone : V → V → Type 0) (is_infallible : V → Type 0) (settings : Settings K V) where
-  -- a call gives out the notice of its reply
-  given-reply : (steps : List (AcceptedStep K V E)) (call : Call K V E) (reply : Reply K V C H W X P F L T E S) → IsReplyTo eq is_clone is_infallible settings steps call reply
-      → given_out eq settings (events_in (after_reply eq settings call reply steps)) ≡ given_out eq settings (events_in steps) ++ noticed_in (reply ∷ [])
-  given-reply steps call (Found v) is = given-by_reply is_clone eq settings steps call (calls.Found v) is.0
-  given-reply steps call (Contains b) is = given-by_reply is_clone eq settings steps call (calls.Contains b) is.0
-  given-reply steps call Done is = given-by_reply is_clone eq settings steps call calls.Done is.0
-  given-reply steps call (Counted n) is = given-by_reply is_clone eq settings steps call (calls.Counted n) is.0
-  given-reply steps call (Left b) is = given-by_reply is_clone eq settings steps call (calls.Left b) is.0
-  given-reply steps call (Noticed None) is = given-by_reply is_clone eq settings steps call (calls.Noticed None) is.0
-  given-reply steps call (Noticed (Some n)) is = given-by_reply is_clone eq settings steps call (calls.Noticed (Some (removal_of n))) is.0
-  given-reply steps call (Entered entry) is = given-by_reply is_clone eq settings steps call (calls.Entered (entry_of entry)) is.0
-  given-reply steps call (Run name entry) is = given-by_reply is_clone eq settings steps call (calls.Run (name_by name) (option_map entry_of entry)) is.0
-  given-reply steps call (Wait name) is = given-by_reply is_clone eq settings steps call (calls.Wait (name_by name)) is.0
-  given-reply steps call Nothing is = given-by_reply is_clone eq settings steps call calls.GaveNothing is.0
-  given-reply steps call (Failed error) is = given-by_reply is_clone eq settings steps call (calls.GaveError (arc_value error)) is.0
-  given-reply steps call (Computed (results.StillNone key)) is = given-by_reply is_clone eq settings steps call (calls.StillNone (arc_value key)) is.0
-  given-reply steps call (Computed (results.Unchanged entry)) is = given-by_reply is_clone eq settings steps call (calls.Unchanged (entry_of entry)) is.0
-  given-reply steps call (Computed (results.Inserted entry)) is = given-by_reply is_clone eq settings steps call (calls.Inserted (entry_of entry)) is.0
-  given-reply steps call (Computed (results.ReplacedWith entry)) is = given-by_reply is_clone eq settings steps call (calls.ReplacedWith (entry_of entry)) is.0
-  given-reply steps call (Computed (results.Removed entry)) is = given-by_reply is_clone eq settings steps call (calls.Removed (entry_of entry)) is.0
-  given-reply steps call NotYet is = given-by_reply is_clone eq settings steps call calls.NotYet is.0
-  given-reply steps call Abandoned is = given-by_reply is_clone eq settings steps call calls.WasAbandoned is.0
-  given-reply steps call Ended is = given-by_reply is_clone eq settings steps call calls.HasEnded is.0
-  given-reply steps call (Refused cause) is = sym (append-nil (given_out eq settings (events_in steps)))
-  given-reply steps call (PredicateRefused cause) is = sym (append-nil (given_out eq settings (events_in steps)))
-
   -- if its call takes no notice, a step gives out none, and its reply has none
   quiet-after : (steps : List (AcceptedStep K V E)) (call : Call K V E) (reply : Reply K V C H W X P F L T E S) → IsQuiet eq settings call → given_out eq settings (events_in (after_reply eq settings call reply steps)) ≡ given_out eq settings (events_in steps)
   quiet-after steps call reply quiet = either eq settings (λ _ those. given_out eq settings (events_in those) ≡ given_out eq settings (events_in steps)) [] steps call reply refl (quiet steps)

@@ -1,4 +1,4 @@
--- The begin of a compute that may not wait, and computes with a closure.
+-- The begin of a compute that may not wait.
 use Rattle.std.proofs.Common.{◌≡◌, ℕ, Bool, true, false, is_some, Option, Some, None, List}
 use Rattle.std.specs.Prelude.{Result, Ok, Err}
 use Rattle.moka_policy.specs.declared.policy.Refused.{Refused}

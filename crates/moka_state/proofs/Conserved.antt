@@ -45,7 +45,7 @@ noticed_in-cons (PredicateRefused cause) replies = refl
 
 module _ {K V C H W X P F L T E S : Type 0} (eq : K → K → Bool) (is_clone : V → V → Type 0) (is_infallible : V → Type 0) (settings : Settings K V) where
   -- a call gives out the notice of its reply
-  given-reply : (steps : List (AcceptedStep K V E)) (call : Call K V E) (reply : Reply K V C H W X P F L T E S) → IsReplyTo eq is_clone is_infallible settings steps call reply
+  pub given-reply : (steps : List (AcceptedStep K V E)) (call : Call K V E) (reply : Reply K V C H W X P F L T E S) → IsReplyTo eq is_clone is_infallible settings steps call reply
       → given_out eq settings (events_in (after_reply eq settings call reply steps)) ≡ given_out eq settings (events_in steps) ++ noticed_in (reply ∷ [])
   given-reply steps call (Found v) is = given-by_reply is_clone eq settings steps call (calls.Found v) is.0
   given-reply steps call (Contains b) is = given-by_reply is_clone eq settings steps call (calls.Contains b) is.0

@@ -11,6 +11,7 @@ use moka_model::entry::Entry;
 use moka_model::turns::{Kind, Outcome};
 use moka_policy::policy::{CacheTypes, Refused};
 use moka_single_flight::replies::Joined;
+use moka_single_flight::wait::MAX_RETRIES;
 use moka_state::answers::{Answer, FinishRefused, Finished};
 use moka_state::handles::Turn;
 use moka_state::loader::{LoaderResult, share_error};
@@ -54,11 +55,11 @@ impl<K: Hash + Drop, V: Clone, C: CacheTypes<K, V>, W: Wait> Cache<K, V, C, W> {
             → OutcomeKeeps (C.keeps key) (G.outcome given) }
         ensures { IfOk result (λ loaded. GivenKeeps C.keeps key (G.answer loaded)) }
     {
-        if let Some(found) = self.find_live(&key)? {
-            return Ok(G::found(found));
+        match self.ask_first(key, G::kind())? {
+            Joined::Value(answer) => Ok(G::loaded(answer)),
+            Joined::Turn(turn) => self.end_with(turn, init()),
+            Joined::TooMany => Err(Refused::WaitsAbandoned),
         }
-        let key = self.share(key)?;
-        self.load_shared(key, init, none_like(|_: &V| false))
     }
 
     // Does what `load` does, but `replace_if` may ask to replace a live value. Shares the key
@@ -91,7 +92,7 @@ impl<K: Hash + Drop, V: Clone, C: CacheTypes<K, V>, W: Wait> Cache<K, V, C, W> {
             → OutcomeKeeps (C.keeps (arc_value key)) (G.outcome given) }
         ensures { IfOk result (λ loaded. GivenKeeps C.keeps (arc_value key) (G.answer loaded)) }
     {
-        match self.ask(key, G::kind(), replace_if)? {
+        match self.ask(key, G::kind(), replace_if, MAX_RETRIES)? {
             Joined::Value(answer) => Ok(G::loaded(answer)),
             Joined::Turn(turn) => self.end_with(turn, init()),
             Joined::TooMany => Err(Refused::WaitsAbandoned),

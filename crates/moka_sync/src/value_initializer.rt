@@ -12,6 +12,7 @@ ghost use Rattle.moka_single_flight.specs.Holds.{HoldsOfJoined};
 ghost use Rattle.moka_sync.specs.Waiting.{IsGivenTo, IsShownTurn, IsTurnFor};
 
 use crate::cache::{Cache, unlock};
+use crate::entry_forms::none_like;
 use moka_model::entry::Entry;
 use moka_model::turns::Kind;
 use moka_policy::policy::{CacheTypes, Refused};
@@ -238,13 +239,14 @@ impl<K: Hash + Drop, V: Clone, C: CacheTypes<K, V>, W: Wait> Cache<K, V, C, W> {
     }
 
     // Returns the live entry or the outcome of another caller's initializer; else the turn, once
-    // nobody else has it, or neither after `MAX_RETRIES` abandoned turns. Fails as a begin or a
+    // nobody else has it, or neither after `max_retries` abandoned turns. Fails as a begin or a
     // collect does.
     pub(crate) fn ask<P: FnMut(&V) -> bool + Drop>(
         &self,
         key: Arc<K>,
         kind: Kind,
         replace_if: Option<P>,
+        max_retries: u64,
     ) -> Result<Joined<Answer<K, V, C::Error>, Turn<K>>, Refused>
         requires initializer { kind ≢ Kind.Compute }
         requires shows { IfSome replace_if
@@ -253,7 +255,35 @@ impl<K: Hash + Drop, V: Clone, C: CacheTypes<K, V>, W: Wait> Cache<K, V, C, W> {
             (IsTurnFor kind (arc_value key))) }
     {
         let mut caller = Initializer::new(key, kind, replace_if);
-        wait_for(&self.inner.waits, &mut caller, self, Some(MAX_RETRIES))
+        wait_for(&self.inner.waits, &mut caller, self, Some(max_retries))
+    }
+
+    // Does what `ask` does, for a key that is not shared yet. Looks it up, and if it has no live value
+    // shares it and begins, all under one lock.
+    pub(crate) fn ask_first(
+        &self,
+        key: K,
+        kind: Kind,
+    ) -> Result<Joined<Answer<K, V, C::Error>, Turn<K>>, Refused>
+        requires initializer { kind ≢ Kind.Compute }
+        ensures { IfOk result (HoldsOfJoined (IsGivenTo C.keeps kind key) (IsTurnFor kind key)) }
+    {
+        let mut locked = self.lock();
+        if let Some(entry) = locked.find_acceptable(&key, none_like(|_: &V| false))? {
+            return Ok(Joined::Value(Answer::Entry(entry)));
+        }
+        let key = self.share(key)?;
+        let begun = locked.begin(&key, kind, &mut none_like(|_: &V| false));
+        drop(unlock(locked));
+        let ticket = match begun? {
+            Begun::Found(entry) => return Ok(Joined::Value(Answer::Entry(entry))),
+            Begun::Run(turn) => return Ok(Joined::Turn(turn)),
+            Begun::Wait(ticket) => ticket,
+        };
+        match self.collect_or_sleep(ticket)? {
+            Some(answer) => Ok(Joined::Value(answer)),
+            None => self.ask(key, kind, none_like(|_: &V| false), MAX_RETRIES - 1),
+        }
     }
 
     // Returns the turn of a compute, once nobody else has it. Fails as a begin or a collect does.
