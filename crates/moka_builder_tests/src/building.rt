@@ -124,6 +124,28 @@ fn has_the_settings(rt: &impl Abort, state: &mut State, value: Arc<u64>) -> Resu
     Ok(())
 }
 
+/// A cache whose builder was told no policy drops a key that was not looked up.
+#[test]
+fn a_cache_admits_by_frequency_by_default(rt: HostRuntime) -> Result<(), Fail> {
+    let value = share(rt.alloc(), 7)?;
+    let builder: Builder = CacheBuilder::new(1);
+    let mut state = builder.build_state(rt.alloc(), hasher())?;
+    keeps_the_first(&rt, &mut state, value)
+}
+
+// What owns a cache does nothing else that can fail: of each way out its drop has to be proved.
+fn keeps_the_first(rt: &impl Abort, state: &mut State, value: Arc<u64>) -> Result<(), Fail> {
+    state.insert(1, value.clone()?, 0)?;
+    state.run_pending_tasks(0);
+    state.insert(2, value, 0)?;
+    state.run_pending_tasks(0);
+    assert_eq!(rt;
+        (state.contains_key(&1, 0), state.contains_key(&2, 0)),
+        (true, false)
+    );
+    Ok(())
+}
+
 /// A cache may have 1 to 2^63 segments.
 #[test]
 fn a_cache_has_1_to_2_to_63_segments(rt: HostRuntime) {

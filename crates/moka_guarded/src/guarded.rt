@@ -105,6 +105,13 @@ impl<K: Hash + Drop, V: Clone, C: CacheTypes<K, V>> GuardedState<K, V, C> {
         self.state.policy()
     }
 
+    /// Returns the moment that the clock gives.
+    pub fn moment(&self) -> u64
+        ensures { C.Clock.tells self.now.clock result }
+    {
+        self.clock.now()
+    }
+
     /// Returns a clone of the live value for `key`, or `None`. Counts as an access.
     ///
     /// # Errors

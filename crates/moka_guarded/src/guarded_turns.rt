@@ -57,6 +57,22 @@ impl<K: Hash + Drop, V: Clone, C: CacheTypes<K, V>> GuardedState<K, V, C> {
         ensures kept { IfOk result (λ found. IfSome found (EntryKeeps C.keeps key.now)) }
     {
         let now = self.clock.now();
+        self.find_acceptable_at(key, replace_if, now)
+    }
+
+    /// Does what `find_acceptable` does, at a moment that the caller has read.
+    pub fn find_acceptable_at<F: FnMut(&V) -> bool + Drop>(
+        &mut self,
+        key: &K,
+        replace_if: Option<F>,
+        now: u64,
+    ) -> Result<Option<Entry<K, V>>, Refused>
+        requires asks { IfSome replace_if (TakesLive K.eq C.keeps
+            ⟦<C as StateView<K, V>>⟧.settings F.FnMut key.now now self.old.state) }
+        ensures step { Looks ⟦<C as CallView<K, V>>⟧.spec (IsSaidOf F.FnMut replace_if) key.now now
+            self.old.state self.new.state result }
+        ensures kept { IfOk result (λ found. IfSome found (EntryKeeps C.keeps key.now)) }
+    {
         let hash = self.state.hash(key);
         self.state.acceptable_entry(key, hash, replace_if, now)
     }
@@ -82,6 +98,28 @@ impl<K: Hash + Drop, V: Clone, C: CacheTypes<K, V>> GuardedState<K, V, C> {
             replace_if.old replace_if.new }
     {
         let now = self.clock.now();
+        self.begin_at(key, kind, replace_if, now)
+    }
+
+    /// Does what `begin` does, at a moment that the caller has read.
+    pub fn begin_at<F: FnMut(&V) -> bool + Drop>(
+        &mut self,
+        key: &Arc<K>,
+        kind: Kind,
+        replace_if: &mut Option<F>,
+        now: u64,
+    ) -> Result<Begun<K, V>, Refused>
+        requires initializer { kind ≢ Kind.Compute }
+        requires asks { IfSome replace_if.old (TakesLive K.eq C.keeps
+            ⟦<C as StateView<K, V>>⟧.settings F.FnMut (arc_value key.now) now self.old.state) }
+        ensures step { LoaderBegins ⟦<C as CallView<K, V>>⟧.spec (IsSaidOf F.FnMut replace_if.old)
+            (arc_value key.now) kind now true self.old.state self.new.state result }
+        ensures named { IfOk result (IsNamed kind (arc_value key.now)) }
+        ensures kept { IfOk result (FoundKeeps C.keeps) }
+        ensures kept_for { IfOk result (FoundKeepsFor C.keeps (arc_value key.now)) }
+        ensures left { IsShownKept (C.keeps (arc_value key.now)) F.FnMut
+            replace_if.old replace_if.new }
+    {
         self.state.begin_reusing(key, kind, replace_if, now)
     }
 

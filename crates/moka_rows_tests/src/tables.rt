@@ -252,6 +252,26 @@ fn lists_refuse_more_rows_than_numbers(rt: HostRuntime) -> Result<(), Fail> {
     Ok(())
 }
 
+/// Returns for how many of the numbers below `most` an empty store makes no room.
+fn refusals<R: RowStore<u64, u64>>(alloc: Global, most: usize) -> u64 {
+    let mut count = 0_u64;
+    for more in 0..most {
+        if refuses::<R>(alloc, more) {
+            count = count.wrapping_add(1);
+        }
+    }
+    count
+}
+
+/// Each store makes room for each small number of rows.
+#[test]
+fn each_store_makes_room(rt: HostRuntime) -> Result<(), Fail> {
+    assert_eq!(rt; refusals::<ListRows<u64, u64>>(rt.alloc(), 1_100), 0);
+    assert_eq!(rt; refusals::<SlabRows<u64, u64>>(rt.alloc(), 1_100), 0);
+    assert_eq!(rt; refusals::<ExpiringSlab>(rt.alloc(), 1_100), 0);
+    Ok(())
+}
+
 /// The slab returns what the tables say.
 #[test]
 fn a_slab_answers_the_tables(rt: HostRuntime) -> Result<(), Fail> {

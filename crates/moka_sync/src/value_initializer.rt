@@ -259,7 +259,7 @@ impl<K: Hash + Drop, V: Clone, C: CacheTypes<K, V>, W: Wait> Cache<K, V, C, W> {
     }
 
     // Does what `ask` does, for a key that is not shared yet. Looks it up, and if it has no live value
-    // shares it and begins, all under one lock.
+    // shares it and begins, all under one lock and at one moment.
     pub(crate) fn ask_first(
         &self,
         key: K,
@@ -269,11 +269,12 @@ impl<K: Hash + Drop, V: Clone, C: CacheTypes<K, V>, W: Wait> Cache<K, V, C, W> {
         ensures { IfOk result (HoldsOfJoined (IsGivenTo C.keeps kind key) (IsTurnFor kind key)) }
     {
         let mut locked = self.lock();
-        if let Some(entry) = locked.find_acceptable(&key, none_like(|_: &V| false))? {
+        let now = locked.moment();
+        if let Some(entry) = locked.find_acceptable_at(&key, none_like(|_: &V| false), now)? {
             return Ok(Joined::Value(Answer::Entry(entry)));
         }
         let key = self.share(key)?;
-        let begun = locked.begin(&key, kind, &mut none_like(|_: &V| false));
+        let begun = locked.begin_at(&key, kind, &mut none_like(|_: &V| false), now);
         drop(unlock(locked));
         let ticket = match begun? {
             Begun::Found(entry) => return Ok(Joined::Value(Answer::Entry(entry))),

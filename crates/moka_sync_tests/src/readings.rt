@@ -69,8 +69,8 @@ const READINGS: [(Call, u64, u64); 18] = [
     (Call::RunPendingTasksUpTo, 1, 1),
     (Call::EntryCount, 0, 0),
     (Call::Begin, 1, 1),
-    // A look, and on a miss a begin and a finish.
-    (Call::GetWith, 3, 1),
+    // A look with a begin, and on a miss a finish.
+    (Call::GetWith, 2, 1),
     // A begin, and on a miss a finish.
     (Call::GetWithIf, 2, 1),
     // A look, and on a miss a write.

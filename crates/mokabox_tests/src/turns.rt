@@ -221,6 +221,30 @@ fn what_is_put_replaces_what_its_begin_showed(rt: HostRuntime) -> Result<(), Fai
     prints_bytes(&rt, rt.alloc(), &script, &wanted, Status::Done)
 }
 
+// A loader's value replaces nothing if the flush before its write evicts the value that was live.
+#[test]
+fn what_its_flush_evicts_is_not_replaced(rt: HostRuntime) -> Result<(), Fail> {
+    let mut script = Vec::new(rt.alloc());
+    script.extend_from_slice(
+        b"new capacity=10 policy=lru\ninsert 1 v\ntasks\nbegin with 1 replace=yes\n",
+    )?;
+    for key in 2..66_u64 {
+        writeln!(script, "insert {key} v")?;
+    }
+    script.extend_from_slice(b"finish with 1 1 value w\nnotices\ncount\nget 1\n")?;
+    let mut wanted = Vec::new(rt.alloc());
+    wanted.extend_from_slice(b"ok\nok\nok\nrun 1\n")?;
+    for _ in 2..66_u64 {
+        wanted.extend_from_slice(b"ok\n")?;
+    }
+    wanted.extend_from_slice(b"entry 1 w fresh\n")?;
+    for key in 1..56_u64 {
+        writeln!(wanted, "notice {key} v Size")?;
+    }
+    wanted.extend_from_slice(b"end\n11\nsome w\n")?;
+    prints_bytes(&rt, rt.alloc(), &script, &wanted, Status::Done)
+}
+
 /// Lines about turns that are no commands.
 const OTHER_LINES: [&str; 43] = [
     "begin",
