@@ -98,6 +98,12 @@ const HITS: Load = Load {
     ..LOOKS
 };
 
+const OVERWRITES: Load = Load {
+    name: "overwrites",
+    kind: Kind::Overwrite,
+    ..LOOKS
+};
+
 const KNOWN_WITH: Load = Load {
     name: "get_with of what is there",
     kind: Kind::Known(Call::GetWith),
@@ -190,10 +196,11 @@ pub(crate) const COMPUTES: [Load; 3] = [
 ];
 
 /// The loads on which every cache is measured.
-pub(crate) const LOADS: [Load; 8] = [
+pub(crate) const LOADS: [Load; 10] = [
     LOOKS,
     INSERTS,
     HITS,
+    OVERWRITES,
     Load {
         name: "looks, each value living 100,000 calls",
         calls: 250_000,
@@ -210,6 +217,12 @@ pub(crate) const LOADS: [Load; 8] = [
         name: "looks, capacity 10,000",
         capacity: 10_000,
         octaves: 17,
+        ..LOOKS
+    },
+    Load {
+        name: "looks, capacity 1,000,000",
+        capacity: 1_000_000,
+        octaves: 24,
         ..LOOKS
     },
     Load {
@@ -234,9 +247,8 @@ pub(crate) fn with_lives(capacity: u32, octaves: u32) -> [Load; 6] {
         ..LOOKS
     };
     let overwrites = Load {
-        name: "overwrites",
-        kind: Kind::Overwrite,
-        ..looks
+        capacity,
+        ..OVERWRITES
     };
     [
         looks,

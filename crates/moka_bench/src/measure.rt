@@ -1,8 +1,9 @@
 //! Measures one cache on one load.
 use crate::load::{Kind, Load};
 use crate::segments::InSegments;
-use crate::subject::{Create, Fold, NoFrequencies, Ours, Subject, Theirs, Unbounded};
+use crate::subject::{Create, Fold, Nothing, Ours, Subject, Theirs, Unbounded};
 use moka::policy::{CountTable, EvictionPolicy, FrequencySketch};
+use moka::ready::NoFrequency;
 use std::alloc::{AllocError, Global};
 use std::hash::{BuildHasher, BuildHasherDefault, DefaultHasher};
 use std::io;
@@ -29,6 +30,8 @@ pub(crate) enum Which {
     Segment,
     /// The same with sixteen segments.
     Segments,
+    /// No cache, to measure the loop by itself.
+    Nothing,
 }
 
 /// The hasher: SipHash with fixed keys, or the kit's fast one.
@@ -75,12 +78,13 @@ fn measure_with_hasher<H: BuildHasher + Default + Drop, R: Wait + Clock + Copy>(
     match which {
         Which::Theirs => time_load::<Theirs<H, R>, R>(rt, alloc, lru, load, keys),
         Which::Map => time_load::<Unbounded<R>, R>(rt, alloc, lru, load, keys),
-        Which::Lru => time_load::<Ours<H, NoFrequencies>, R>(rt, alloc, lru, load, keys),
-        Which::Slowest => time_slowest::<Ours<H, NoFrequencies>, R>(rt, alloc, lru, load, keys),
+        Which::Lru => time_load::<Ours<H, NoFrequency>, R>(rt, alloc, lru, load, keys),
+        Which::Slowest => time_slowest::<Ours<H, NoFrequency>, R>(rt, alloc, lru, load, keys),
         Which::Table => time_load::<Ours<H, CountTable<20>>, R>(rt, alloc, tiny_lfu, load, keys),
         Which::Sketch => measure_sketch::<H, R>(rt, alloc, load, keys),
         Which::Segment => time_load::<InSegments<H, 1>, R>(rt, alloc, lru, load, keys),
         Which::Segments => time_load::<InSegments<H, 16>, R>(rt, alloc, lru, load, keys),
+        Which::Nothing => time_load::<Nothing, R>(rt, alloc, lru, load, keys),
     }
 }
 

@@ -1,9 +1,10 @@
 //! What removals cost: of single keys, and of all entries at once.
 use crate::load::{Kind, Life, Load, SMALL};
 use crate::measure::{nanos_since, prepare};
-use crate::subject::{Clearable, Create, Everything, Fold, NoFrequencies, Ours};
+use crate::subject::{Clearable, Create, Everything, Fold, Ours};
 use crate::table::{median, share};
 use moka::policy::EvictionPolicy;
+use moka::ready::NoFrequency;
 use std::alloc::{AllocError, Global};
 use std::io;
 use std::rt::Runtime;
@@ -81,7 +82,7 @@ fn time_of<R: Clock + Copy>(
 ) -> io::Result<u64> {
     let mut times = Vec::with_capacity(alloc, rounds)?;
     for _ in 0..rounds {
-        let nanos = time_removal::<Ours<Fold, NoFrequencies>, R>(rt, alloc, removal, rows)?;
+        let nanos = time_removal::<Ours<Fold, NoFrequency>, R>(rt, alloc, removal, rows)?;
         times.push(share(nanos, 1, u64::from(rows)))?;
     }
     Ok(median(times))

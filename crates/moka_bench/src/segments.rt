@@ -1,7 +1,8 @@
 //! An owned cache with several segments.
 use crate::load::Load;
-use crate::subject::{Create, NoFrequencies, Subject, Types};
+use crate::subject::{Create, Subject, Types};
 use moka::policy::EvictionPolicy;
+use moka::ready::NoFrequency;
 use moka::state::{ExpiringRows, RowStore};
 use moka::sync::CacheBuilder;
 use moka::sync::segment::Segmented;
@@ -11,7 +12,7 @@ use std::hash::BuildHasher;
 /// A cache of `N` segments with LRU, over any row store.
 #[derive(Drop)]
 pub(crate) struct SegmentsOf<H: BuildHasher + Drop, R: RowStore<u64, u64>, const N: usize> {
-    cache: Segmented<u64, u64, Types<H, NoFrequencies>, R>,
+    cache: Segmented<u64, u64, Types<H, NoFrequency>, R>,
 }
 
 /// The same over the store of a `SegmentedState`.

@@ -8,8 +8,7 @@ use crate::own_lives::SameLives;
 use lru::LruCache;
 use moka::ops::compute::Op;
 use moka::policy::{
-    CacheTypes, CountTable, EvictionPolicy, FrequencySource, ManualClock, NoListener, NoWeigher,
-    Predicate,
+    CacheTypes, EvictionPolicy, FrequencySource, ManualClock, NoListener, NoWeigher, Predicate,
 };
 use moka::state::{ExpiringRows, Reply, RowStore, Settings, State, Step};
 use moka::sync::value_initializer::Kind as Turning;
@@ -97,9 +96,6 @@ impl Predicate<u64, u64> for Everything {
 
 /// The kit's fast hasher.
 pub(crate) type Fold = BuildHasherDefault<FoldHasher>;
-
-/// The frequency source of a cache that asks none: one counter.
-pub(crate) type NoFrequencies = CountTable<0>;
 
 /// The types of a measured cache: its hasher and its frequency source.
 pub(crate) struct Types<H, F>(H, F);
@@ -405,4 +401,31 @@ impl<W: Wait + Drop> Subject for Unbounded<W> {
         }
         Ok(found)
     }
+}
+
+/// No cache: a lookup finds its key, and an insert does nothing.
+#[derive(Drop)]
+pub(crate) struct Nothing;
+
+impl<W: Drop> Create<W> for Nothing {
+    fn create(
+        _alloc: Global,
+        _load: &Load,
+        _policy: EvictionPolicy,
+        _waits: W,
+    ) -> Result<Self, AllocError> {
+        Ok(Nothing)
+    }
+}
+
+impl Subject for Nothing {
+    fn look_up(&mut self, _key: u64, _now: u64) -> Result<bool, AllocError> {
+        Ok(true)
+    }
+
+    fn insert(&mut self, _key: u64, _now: u64) -> Result<(), AllocError> {
+        Ok(())
+    }
+
+    fn settle(&mut self, _now: u64) {}
 }

@@ -76,7 +76,15 @@ pub(crate) fn run<R: Runtime + Wait + Copy>(
             ("initializers", Ok(rounds)) => print_calls(rt, alloc, rounds, &[&KNOWN, &NEW]),
             ("segments", Ok(rounds)) => print_times(rt, alloc, rounds, &FIRST, &SEGMENTED),
             ("walks", Ok(rounds)) => print_times(rt, alloc, rounds, &WALKS, &WALKED),
-            ("memory", Ok(number)) => print_memory(rt, alloc, number),
+            _ => print_usage(rt),
+        },
+        [word, cache, load, calls] => match (
+            word.as_str(),
+            cache.parse::<usize>(),
+            load.parse::<usize>(),
+            calls.parse::<u32>(),
+        ) {
+            ("one", Ok(cache), Ok(load), Ok(calls)) => print_one(rt, alloc, cache, load, calls),
             _ => print_usage(rt),
         },
         _ => print_usage(rt),
@@ -85,7 +93,7 @@ pub(crate) fn run<R: Runtime + Wait + Copy>(
 
 fn print_usage(rt: &impl io::Print) -> io::Result<()> {
     println!(rt;
-        "usage: moka_bench [(times | computes | initializers | lives | limits | removals | segments | walks) ROUNDS | memory NUMBER]"
+        "usage: moka_bench [(times | computes | initializers | lives | limits | removals | segments | walks) ROUNDS | one CACHE LOAD CALLS]"
     )
 }
 
@@ -312,21 +320,32 @@ pub(crate) fn median(mut numbers: Vec<u64>) -> u64 {
     numbers.get(numbers.len() / 2).copied().unwrap_or(0)
 }
 
-/// Prints the most memory that the process used, in KiB, with the first load on one cache. With a
-/// number past the last cache, only the keys of the load are made.
-fn print_memory<R: Runtime + Wait + Copy>(rt: &R, alloc: Global, number: usize) -> io::Result<()> {
-    let load = LOADS[0];
-    let keys = load.keys(alloc)?;
-    let name = match CACHES.get(number) {
-        Some((which, hashing, name)) => {
-            measure_load(rt, alloc, *which, *hashing, &load, keys.as_slice())?;
-            *name
-        }
-        None => "no cache",
+/// Runs one load on one cache, with so many calls that are measured after as many that are not.
+/// Prints the names of both, the nanoseconds of the measured calls, how many found their key, and
+/// the most memory that the process used, in KiB. A number past the last cache stands for no cache.
+fn print_one<R: Runtime + Wait + Copy>(
+    rt: &R,
+    alloc: Global,
+    cache: usize,
+    load: usize,
+    calls: u32,
+) -> io::Result<()> {
+    let (which, hashing, name) = match CACHES.get(cache) {
+        Some(named) => *named,
+        None => (Which::Nothing, Hashing::Fold, "no cache"),
     };
+    let Some(load) = LOADS.get(load) else {
+        return print_usage(rt);
+    };
+    let load = Load { calls, ..*load };
+    let keys = load.keys(alloc)?;
+    let outcome = measure_load(rt, alloc, which, hashing, &load, keys.as_slice())?;
     let status = fs::read_to_string(rt, "/proc/self/status")?;
     let peak = peak_of(status.as_str()).unwrap_or("unknown");
-    println!(rt; "{name}: {peak} KiB")
+    println!(rt;
+        "{name}\t{}\t{}\t{}\t{peak}",
+        load.name, outcome.nanos, outcome.hits
+    )
 }
 
 /// Returns the number in the line of the peak, as the system writes it for a process.
