@@ -12,10 +12,6 @@ const NEVER_NOTED: u8 = 0;
 /// It is for caches under [`EvictionPolicy::lru`], which asks for no estimate. There each lookup
 /// saves the note of its hash. Under TinyLFU a full cache would admit no new entry.
 ///
-/// ```
-/// type Frequency = NoFrequency;
-/// ```
-///
 /// [`EvictionPolicy::lru`]: moka_policy::policy::EvictionPolicy::lru
 #[derive(Clone, Copy, Debug, Default)]
 pub struct NoFrequency;
