@@ -82,7 +82,7 @@ module _ {K V C H W X P F L T E S : Type 0} (eq : K → K → Bool) (is_clone : 
   quiet-after steps call reply quiet = either eq settings (λ _ those. given_out eq settings (events_in those) ≡ given_out eq settings (events_in steps)) [] steps call reply refl (quiet steps)
 
   quiet-reply : (steps : List (AcceptedStep K V E)) (call : Call K V E) (reply : Reply K V C H W X P F L T E S) → IsQuiet eq settings call → IsReplyTo eq is_clone is_infallible settings steps call reply → noticed_in (reply ∷ []) ≡ []
-  quiet-reply steps call reply quiet is = no-more (given_out eq settings (events_in steps)) (noticed_in (reply ∷ [])) (sym (quiet-after steps call reply quiet) ∙ given-reply steps call reply is)
+  quiet-reply steps call reply quiet is = no-more (given_out eq settings (events_in steps)) (noticed_in (reply ∷ [])) (sym (quiet-after steps call reply quiet) ∙ given-reply eq is_clone is_infallible settings steps call reply is)
 
 both-same : {A : Type 0} (b : Bool) (x : A) → x ≡ cond b x x
 both-same true x = refl
