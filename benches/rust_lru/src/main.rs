@@ -3,41 +3,12 @@
 //! `one CACHE LOAD CALLS` runs one load on one cache, and prints what `moka_bench one` prints: the names of both, the nanoseconds of the
 //! measured calls, how many found their key, and the most memory that the process used, in KiB. A number past the last cache stands
 //! for no cache.
+mod loads;
+
+use loads::{asked, measure, Nothing, Shared};
 use std::collections::hash_map::RandomState;
 use std::hash::BuildHasher;
 use std::sync::Mutex;
-use std::time::Instant;
-
-/// The keys of `moka_bench`: xorshift, its state multiplied.
-struct Numbers(u64);
-
-impl Numbers {
-    fn below(&mut self, bound: u32) -> u32 {
-        self.0 ^= self.0 >> 12;
-        self.0 ^= self.0 << 25;
-        self.0 ^= self.0 >> 27;
-        let number = self.0.wrapping_mul(2_685_821_657_736_338_717) >> 32;
-        (number.wrapping_mul(u64::from(bound)) >> 32) as u32
-    }
-
-    fn skewed(&mut self, octaves: u32) -> u32 {
-        let first = 1_u32.wrapping_shl(self.below(octaves));
-        for _ in 0..64 {
-            let key = first.wrapping_add(self.below(first));
-            if self.below(key) < first {
-                return key;
-            }
-        }
-        first
-    }
-}
-
-/// A cache that a call locks.
-trait Shared {
-    fn look_up(&self, key: u64) -> bool;
-
-    fn insert(&self, key: u64);
-}
 
 impl<S: BuildHasher> Shared for Mutex<lru::LruCache<u64, u64, S>> {
     fn look_up(&self, key: u64) -> bool {
@@ -69,103 +40,11 @@ impl<S: BuildHasher> Shared for Mutex<lru_cache::LruCache<u64, u64, S>> {
     }
 }
 
-/// No cache: a lookup finds its key, and an insert does nothing.
-struct Nothing;
-
-impl Shared for Nothing {
-    fn look_up(&self, _key: u64) -> bool {
-        true
-    }
-
-    fn insert(&self, _key: u64) {}
-}
-
-#[derive(Clone, Copy, PartialEq)]
-enum Kind {
-    Look,
-    Insert,
-    Hit,
-    Overwrite,
-}
-
-struct Load {
-    name: &'static str,
-    kind: Kind,
-    capacity: u32,
-    octaves: u32,
-}
-
-/// Those of `moka_bench`, by the same numbers. These caches have no lifetimes, so they keep the values of the fifth load.
-const LOADS: [Load; 10] = [
-    Load { name: "looks", kind: Kind::Look, capacity: 100_000, octaves: 20 },
-    Load { name: "inserts", kind: Kind::Insert, capacity: 100_000, octaves: 20 },
-    Load { name: "hits", kind: Kind::Hit, capacity: 100_000, octaves: 20 },
-    Load { name: "overwrites", kind: Kind::Overwrite, capacity: 100_000, octaves: 20 },
-    Load { name: "looks, each value living 100,000 calls", kind: Kind::Look, capacity: 100_000, octaves: 20 },
-    Load { name: "looks, capacity 1,000", kind: Kind::Look, capacity: 1_000, octaves: 14 },
-    Load { name: "looks, capacity 10,000", kind: Kind::Look, capacity: 10_000, octaves: 17 },
-    Load { name: "looks, capacity 1,000,000", kind: Kind::Look, capacity: 1_000_000, octaves: 24 },
-    Load { name: "hits, capacity 1,000", kind: Kind::Hit, capacity: 1_000, octaves: 20 },
-    Load { name: "hits, capacity 1,000,000", kind: Kind::Hit, capacity: 1_000_000, octaves: 20 },
-];
-
-/// Returns the keys of the calls: first those that are not measured, and then as many that are.
-fn keys(load: &Load, calls: u32) -> Vec<u64> {
-    let mut numbers = Numbers(20_261_123);
-    (0..2 * calls)
-        .map(|call| match load.kind {
-            Kind::Look => u64::from(numbers.skewed(load.octaves)),
-            Kind::Insert => u64::from(call),
-            Kind::Hit | Kind::Overwrite => u64::from(numbers.below(load.capacity)),
-        })
-        .collect()
-}
-
-/// Runs keys of a load. Returns how many were found.
-fn run<C: Shared>(cache: &C, kind: Kind, keys: &[u64]) -> u64 {
-    let mut hits = 0;
-    for key in keys {
-        if matches!(kind, Kind::Look | Kind::Hit) && cache.look_up(*key) {
-            hits += 1;
-        } else if kind != Kind::Hit {
-            cache.insert(*key);
-        }
-    }
-    hits
-}
-
-fn measure<C: Shared>(name: &str, cache: C, load: &Load, calls: u32) {
-    let keys = keys(load, calls);
-    let (before, measured) = keys.split_at(keys.len() / 2);
-    if matches!(load.kind, Kind::Hit | Kind::Overwrite) {
-        for key in 0..u64::from(load.capacity) {
-            cache.insert(key);
-        }
-    }
-    run(&cache, load.kind, before);
-    let begun = Instant::now();
-    let hits = run(&cache, load.kind, measured);
-    let nanos = begun.elapsed().as_nanos();
-    println!("{name}\t{}\t{nanos}\t{hits}\t{}", load.name, peak());
-}
-
-/// Returns the most memory that the process used, in KiB.
-fn peak() -> String {
-    let status = std::fs::read_to_string("/proc/self/status").unwrap_or_default();
-    let line = status.lines().find_map(|line| line.strip_prefix("VmHWM:"));
-    line.map_or("unknown", |rest| rest.trim_end_matches("kB").trim()).to_owned()
-}
-
 fn main() {
     let arguments: Vec<String> = std::env::args().skip(1).collect();
-    let [word, cache, load, calls] = arguments.as_slice() else {
+    let Some((cache, load, calls)) = asked(&arguments) else {
         return println!("usage: rust_lru one CACHE LOAD CALLS");
     };
-    let numbers = (cache.parse(), load.parse::<usize>(), calls.parse());
-    let ("one", (Ok(cache), Ok(load), Ok(calls))) = (word.as_str(), numbers) else {
-        return println!("usage: rust_lru one CACHE LOAD CALLS");
-    };
-    let load = &LOADS[load];
     let size = load.capacity as usize;
     let sip = RandomState::new();
     match cache {

@@ -1,17 +1,15 @@
 //! The last moment, the longest lifetime and the last sequence number; and replaced values.
 
 use crate::calls::Selected;
+use crate::on_owned::{InLists, InSegments, InSlab};
 use crate::player::{Player, SECOND};
 use crate::returned::{Parts, Returned, notice_of};
 use crate::steps::{Ending, Stepped};
 use crate::subject::Subject;
-use crate::types::{Rules, Text, Types, WIDE, create_text};
+use crate::types::{Rules, WIDE, create_text};
 use moka_model::notification::RemovalCause;
 use moka_model::turns::Kind;
 use moka_policy::policy::Refused;
-use moka_segmented::segment::SegmentedState;
-use moka_state::list_rows::ListRows;
-use moka_state::state::{CacheState, State};
 use std::alloc::Global;
 use std::process::Abort;
 use std::test::Fail;
@@ -60,9 +58,9 @@ fn check_rows<S: Subject + Drop>(
 }
 
 fn check_over_all(rt: &impl Abort, alloc: Global, rules: Rules, rows: &[Row]) -> Result<(), Fail> {
-    check_table::<CacheState<u64, Text, Types>>(rt, alloc, rules, rows)?;
-    check_table::<State<u64, Text, Types, ListRows<u64, Text>>>(rt, alloc, rules, rows)?;
-    check_table::<SegmentedState<u64, Text, Types>>(rt, alloc, rules, rows)
+    check_table::<InSlab>(rt, alloc, rules, rows)?;
+    check_table::<InLists>(rt, alloc, rules, rows)?;
+    check_table::<InSegments>(rt, alloc, rules, rows)
 }
 
 const NONE_LEFT: Returned = Returned::Refused(Refused::NumbersUsedUp);
@@ -284,6 +282,6 @@ fn replace_in<S: Subject + Drop>(rt: &impl Abort, player: &mut Player<S>) -> Res
 /// `or_insert_with_if` says that it replaced a live value, which gets a notice.
 #[test]
 fn a_value_that_is_turned_down_is_replaced(rt: HostRuntime) -> Result<(), Fail> {
-    replace::<CacheState<u64, Text, Types>>(&rt, rt.alloc())?;
-    replace::<State<u64, Text, Types, ListRows<u64, Text>>>(&rt, rt.alloc())
+    replace::<InSlab>(&rt, rt.alloc())?;
+    replace::<InLists>(&rt, rt.alloc())
 }

@@ -4,17 +4,15 @@ ghost use Rattle.moka_model.specs.declared.turns.Kind.{Kind};
 
 use crate::goes_on::{later, steps_alike};
 use crate::handles::{consume, consume_collected};
+use crate::on_owned::{InLists, InSegments, InSlab};
 use crate::player::{At, Player};
 use crate::returned::{Returned, finished_of, returned_of_outcome};
 use crate::subject::{Given, Subject};
-use crate::types::{SMALL, Text, Types, create_text, share};
+use crate::types::{SMALL, Text, create_text, share};
 use moka_model::turns::{Kind, Outcome};
 use moka_policy::policy::Refused;
-use moka_segmented::segment::SegmentedState;
 use moka_state::answers::{Begun, FinishRefused};
 use moka_state::handles::{CollectRefused, Ticket, Turn};
-use moka_state::list_rows::ListRows;
-use moka_state::state::{CacheState, State};
 use std::alloc::Global;
 use std::process::Abort;
 use std::sync::Arc;
@@ -228,17 +226,17 @@ fn hand_back_beside<S: Subject + Drop>(
 /// next ones then work.
 #[test]
 fn a_refused_end_of_a_turn_is_made_again(rt: HostRuntime) -> Result<(), Fail> {
-    hand_back::<CacheState<u64, Text, Types>>(&rt, rt.alloc())
+    hand_back::<InSlab>(&rt, rt.alloc())
 }
 
 /// The same over plain lists.
 #[test]
 fn a_refused_end_of_a_turn_is_made_again_in_lists(rt: HostRuntime) -> Result<(), Fail> {
-    hand_back::<State<u64, Text, Types, ListRows<u64, Text>>>(&rt, rt.alloc())
+    hand_back::<InLists>(&rt, rt.alloc())
 }
 
 /// The same with segments.
 #[test]
 fn a_refused_end_of_a_turn_is_made_again_in_a_segment(rt: HostRuntime) -> Result<(), Fail> {
-    hand_back::<SegmentedState<u64, Text, Types>>(&rt, rt.alloc())
+    hand_back::<InSegments>(&rt, rt.alloc())
 }

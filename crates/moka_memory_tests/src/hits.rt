@@ -5,16 +5,14 @@ ghost use Rattle.std.specs.Prelude.{◌≡◌};
 ghost use Rattle.moka_model.specs.declared.turns.Kind.{Kind};
 
 use crate::handles::{consume, consume_collected, finish};
+use crate::on_owned::{InLists, InSegments, InSlab};
 use crate::player::open_anew;
 use crate::returned::{Returned, entry_of, option_of, or_insert_of};
 use crate::subject::Subject;
-use crate::types::{Rules, SMALL, Text, Types, share};
+use crate::types::{Rules, SMALL, Text, share};
 use crate::without_memory::{is, open_turn, take_ticket, takes_memory};
 use moka_model::turns::{Kind, Outcome};
-use moka_segmented::segment::SegmentedState;
 use moka_state::handles::{Ticket, Turn};
-use moka_state::list_rows::ListRows;
-use moka_state::state::{CacheState, State};
 use std::alloc::Global;
 use std::process::Abort;
 use std::sync::Arc;
@@ -125,35 +123,35 @@ fn take_none_at_0<S: Subject + Drop>(rt: &impl Abort, alloc: Global) -> Result<(
 /// A hit and a collect allocate nothing but clones. Neither does an end without a value.
 #[test]
 fn takes_no_memory_but_for_clones(rt: HostRuntime) -> Result<(), Fail> {
-    take_none::<CacheState<u64, Text, Types>>(&rt, rt.alloc())
+    take_none::<InSlab>(&rt, rt.alloc())
 }
 
 /// The same over plain lists.
 #[test]
 fn takes_no_memory_but_for_clones_in_lists(rt: HostRuntime) -> Result<(), Fail> {
-    take_none::<State<u64, Text, Types, ListRows<u64, Text>>>(&rt, rt.alloc())
+    take_none::<InLists>(&rt, rt.alloc())
 }
 
 /// The same with segments.
 #[test]
 fn takes_no_memory_but_for_clones_in_a_segment(rt: HostRuntime) -> Result<(), Fail> {
-    take_none::<SegmentedState<u64, Text, Types>>(&rt, rt.alloc())
+    take_none::<InSegments>(&rt, rt.alloc())
 }
 
 /// At a capacity of 0 a finish with a value and an `or_insert` allocate nothing but clones.
 #[test]
 fn takes_no_memory_to_finish_at_a_capacity_of_0(rt: HostRuntime) -> Result<(), Fail> {
-    take_none_at_0::<CacheState<u64, Text, Types>>(&rt, rt.alloc())
+    take_none_at_0::<InSlab>(&rt, rt.alloc())
 }
 
 /// The same over plain lists.
 #[test]
 fn takes_no_memory_to_finish_at_a_capacity_of_0_in_lists(rt: HostRuntime) -> Result<(), Fail> {
-    take_none_at_0::<State<u64, Text, Types, ListRows<u64, Text>>>(&rt, rt.alloc())
+    take_none_at_0::<InLists>(&rt, rt.alloc())
 }
 
 /// The same with segments.
 #[test]
 fn takes_no_memory_to_finish_at_a_capacity_of_0_in_a_segment(rt: HostRuntime) -> Result<(), Fail> {
-    take_none_at_0::<SegmentedState<u64, Text, Types>>(&rt, rt.alloc())
+    take_none_at_0::<InSegments>(&rt, rt.alloc())
 }

@@ -20,9 +20,7 @@ mod hits;
 #[cfg(test)]
 mod lists;
 #[cfg(test)]
-mod on_segments;
-#[cfg(test)]
-mod on_state;
+mod on_owned;
 #[cfg(test)]
 mod open_turns;
 #[cfg(test)]

@@ -2,18 +2,16 @@
 //! Each test allocates just before and just after the calls, as in `without_memory`.
 
 use crate::calls::Selected;
+use crate::on_owned::{InLists, InSegments, InSlab};
 use crate::player::{new_flag, open_anew};
 use crate::returned::{Returned, option_of, tried_of, value_of};
 use crate::subject::{Asked, Subject};
-use crate::types::{SMALL, Text, Types, share};
+use crate::types::{SMALL, Text, share};
 use crate::without_memory::{is, open_turn, takes_memory};
 use moka_model::turns::Kind;
 use moka_policy::policy::Refused;
-use moka_segmented::segment::SegmentedState;
 use moka_state::answers::BegunCompute;
 use moka_state::handles::Turn;
-use moka_state::list_rows::ListRows;
-use moka_state::state::{CacheState, State};
 use std::alloc::{AllocError, Global};
 use std::process::Abort;
 use std::sync::Arc;
@@ -146,17 +144,17 @@ fn take_none<S: Subject + Drop>(rt: &impl Abort, alloc: Global, selects: bool) -
 /// A loader or a compute that would have to wait fails with `TurnIsOpen`, also without memory.
 #[test]
 fn takes_no_memory_where_a_turn_is_open(rt: HostRuntime) -> Result<(), Fail> {
-    take_none::<CacheState<u64, Text, Types>>(&rt, rt.alloc(), true)
+    take_none::<InSlab>(&rt, rt.alloc(), true)
 }
 
 /// The same over plain lists.
 #[test]
 fn takes_no_memory_where_a_turn_is_open_in_lists(rt: HostRuntime) -> Result<(), Fail> {
-    take_none::<State<u64, Text, Types, ListRows<u64, Text>>>(&rt, rt.alloc(), true)
+    take_none::<InLists>(&rt, rt.alloc(), true)
 }
 
 /// The same with segments, for loaders.
 #[test]
 fn takes_no_memory_where_a_turn_is_open_in_a_segment(rt: HostRuntime) -> Result<(), Fail> {
-    take_none::<SegmentedState<u64, Text, Types>>(&rt, rt.alloc(), false)
+    take_none::<InSegments>(&rt, rt.alloc(), false)
 }

@@ -4,24 +4,21 @@
 use crate::calls::Row;
 use crate::goes_on::{check_each, check_list};
 use crate::lists::{FLUSHES, FORMS, GROWTHS, HANDLES, KEYS, SCANS, SELECTORS, STEPS};
-use crate::types::{Text, Types};
-use moka_segmented::segment::SegmentedState;
-use moka_state::list_rows::ListRows;
-use moka_state::state::{CacheState, State};
+use crate::on_owned::{InLists, InSegments, InSlab};
 use std::alloc::Global;
 use std::process::Abort;
 use std::test::Fail;
 
 fn in_a_slab(rt: &impl Abort, alloc: Global, rows: &[Row]) -> Result<(), Fail> {
-    check_list::<CacheState<u64, Text, Types>>(rt, alloc, rows)
+    check_list::<InSlab>(rt, alloc, rows)
 }
 
 fn in_lists(rt: &impl Abort, alloc: Global, rows: &[Row]) -> Result<(), Fail> {
-    check_list::<State<u64, Text, Types, ListRows<u64, Text>>>(rt, alloc, rows)
+    check_list::<InLists>(rt, alloc, rows)
 }
 
 fn in_segments(rt: &impl Abort, alloc: Global, rows: &[Row]) -> Result<(), Fail> {
-    check_list::<SegmentedState<u64, Text, Types>>(rt, alloc, rows)
+    check_list::<InSegments>(rt, alloc, rows)
 }
 
 /// A call about one key changes nothing if an allocation or a clone fails.
@@ -142,17 +139,17 @@ fn a_refused_scan_changes_no_list(rt: HostRuntime) -> Result<(), Fail> {
 /// A call that has to grow what a cache stores changes nothing if an allocation fails.
 #[test]
 fn a_refused_growth_changes_nothing(rt: HostRuntime) -> Result<(), Fail> {
-    check_each::<CacheState<u64, Text, Types>>(&rt, rt.alloc(), &GROWTHS)
+    check_each::<InSlab>(&rt, rt.alloc(), &GROWTHS)
 }
 
 /// Over plain lists, a call that has to grow them changes nothing if an allocation fails.
 #[test]
 fn a_refused_growth_changes_no_list(rt: HostRuntime) -> Result<(), Fail> {
-    check_each::<State<u64, Text, Types, ListRows<u64, Text>>>(&rt, rt.alloc(), &GROWTHS)
+    check_each::<InLists>(&rt, rt.alloc(), &GROWTHS)
 }
 
 /// With segments, a call that has to grow one changes nothing if an allocation fails.
 #[test]
 fn a_refused_growth_changes_no_segment(rt: HostRuntime) -> Result<(), Fail> {
-    check_each::<SegmentedState<u64, Text, Types>>(&rt, rt.alloc(), &GROWTHS)
+    check_each::<InSegments>(&rt, rt.alloc(), &GROWTHS)
 }

@@ -4,6 +4,7 @@ ghost use Rattle.std.specs.List.{AllByRecursion};
 ghost use Rattle.moka_state.specs.Step.{StepKeeps};
 
 use crate::goes_on::{later, steps_alike};
+use crate::on_owned::{InLists, InSegments, InSlab};
 use crate::player::{At, Player};
 use crate::returned::{NO_MEMORY, Returned, returned_of};
 use crate::steps::{Ending, Placed, Stepped, create_step};
@@ -11,9 +12,6 @@ use crate::subject::{Subject, TextReply, TextStep};
 use crate::types::{Every, SMALL, Text, Types};
 use moka_model::turns::Kind;
 use moka_policy::policy::{CacheTypes, Predicate};
-use moka_segmented::segment::SegmentedState;
-use moka_state::list_rows::ListRows;
-use moka_state::state::{CacheState, State};
 use std::alloc::{AllocError, Global};
 use std::process::Abort;
 use std::test::Fail;
@@ -183,17 +181,17 @@ fn check_run_in<S: Subject + Drop>(
 /// A run that is refused changes nothing, and a step that is refused in a run counts as absent.
 #[test]
 fn a_refused_step_of_a_run_changes_nothing(rt: HostRuntime) -> Result<(), Fail> {
-    check_run::<CacheState<u64, Text, Types>>(&rt, rt.alloc())
+    check_run::<InSlab>(&rt, rt.alloc())
 }
 
 /// The same over plain lists.
 #[test]
 fn a_refused_step_of_a_run_changes_no_list(rt: HostRuntime) -> Result<(), Fail> {
-    check_run::<State<u64, Text, Types, ListRows<u64, Text>>>(&rt, rt.alloc())
+    check_run::<InLists>(&rt, rt.alloc())
 }
 
 /// The same with segments.
 #[test]
 fn a_refused_step_of_a_run_changes_no_segment(rt: HostRuntime) -> Result<(), Fail> {
-    check_run::<SegmentedState<u64, Text, Types>>(&rt, rt.alloc())
+    check_run::<InSegments>(&rt, rt.alloc())
 }

@@ -2,12 +2,12 @@
 
 use crate::calls::Before;
 use crate::goes_on::{ends, later};
+use crate::on_owned::InSlab;
 use crate::player::{At, KEY, Move, Player};
 use crate::steps::{Ending, Stepped};
 use crate::subject::Subject;
-use crate::types::{SMALL, Text, Types};
+use crate::types::SMALL;
 use moka_model::turns::Kind;
-use moka_state::state::CacheState;
 use std::alloc::Global;
 use std::process::Abort;
 use std::test::Fail;
@@ -87,7 +87,7 @@ fn check_row_in<S: Subject + Drop>(
 #[test]
 fn the_later_steps_show_what_was_changed(rt: HostRuntime) -> Result<(), Fail> {
     for row in ROWS {
-        check_row::<CacheState<u64, Text, Types>>(&rt, rt.alloc(), row)?;
+        check_row::<InSlab>(&rt, rt.alloc(), row)?;
     }
     Ok(())
 }

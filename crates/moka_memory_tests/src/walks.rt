@@ -1,14 +1,16 @@
 //! Iteration by a cursor of which a clone or a list of keys is refused, or whose cache changes.
 
 use crate::goes_on::{later, steps_alike};
+use crate::on_owned::{InSegments, InSlab, Owned};
 use crate::player::{At, Move, Player};
 use crate::returned::Returned;
 use crate::steps::Stepped;
 use crate::subject::Subject;
 use crate::types::{SMALL, Text, Types, WIDE};
+use either::{Left, Right};
 use moka_model::turns::Kind;
 use moka_policy::policy::Refused;
-use moka_segmented::segment::SegmentedState;
+use moka_state::expiring_rows::ExpiringRows;
 use moka_state::state::CacheState;
 use moka_state_iter::cursor::WalkCursor;
 use std::alloc::Global;
@@ -25,16 +27,22 @@ trait Walked: Subject {
     fn next(&self, cursor: &mut WalkCursor<u64>, now: u64) -> Pair;
 }
 
-impl Walked for CacheState<u64, Text, Types> {
+impl<const SEGMENTS: u64> Walked for Owned<ExpiringRows<u64, Text>, SEGMENTS> {
     fn next(&self, cursor: &mut WalkCursor<u64>, now: u64) -> Pair {
-        cursor.next(slice::from_ref(self), now)
+        match &self.any {
+            Left(state) => next_of_state(state, cursor, now),
+            Right(cache) => cursor.next(cache.segments(), now),
+        }
     }
 }
 
-impl Walked for SegmentedState<u64, Text, Types> {
-    fn next(&self, cursor: &mut WalkCursor<u64>, now: u64) -> Pair {
-        cursor.next(self.segments(), now)
-    }
+/// Returns what comes next in a cache of one segment.
+fn next_of_state(
+    state: &CacheState<u64, Text, Types>,
+    cursor: &mut WalkCursor<u64>,
+    now: u64,
+) -> Pair {
+    cursor.next(slice::from_ref(state), now)
 }
 
 /// Three live entries.
@@ -125,13 +133,13 @@ fn goes_on_behind(rt: &impl Abort, walk: Yielded) {
 /// A refused allocation costs an iteration a segment or an entry, and the cache nothing.
 #[test]
 fn a_walk_goes_on_behind_a_refused_entry(rt: HostRuntime) -> Result<(), Fail> {
-    walk_and_go_on::<CacheState<u64, Text, Types>>(&rt, rt.alloc())
+    walk_and_go_on::<InSlab>(&rt, rt.alloc())
 }
 
 /// The same over segments.
 #[test]
 fn a_walk_over_segments_goes_on_behind_a_refused_entry(rt: HostRuntime) -> Result<(), Fail> {
-    walk_and_go_on::<SegmentedState<u64, Text, Types>>(&rt, rt.alloc())
+    walk_and_go_on::<InSegments>(&rt, rt.alloc())
 }
 
 /// Returns the number of the entry that comes next, if there is one.
@@ -172,6 +180,6 @@ fn is_removed(rt: &impl Abort, returned: Returned) {
 /// An entry that is removed before it comes does not come, and neither does one that is new.
 #[test]
 fn a_walk_ends_behind_the_last_entry_that_stands(rt: HostRuntime) -> Result<(), Fail> {
-    change_between::<CacheState<u64, Text, Types>>(&rt, rt.alloc())?;
-    change_between::<SegmentedState<u64, Text, Types>>(&rt, rt.alloc())
+    change_between::<InSlab>(&rt, rt.alloc())?;
+    change_between::<InSegments>(&rt, rt.alloc())
 }

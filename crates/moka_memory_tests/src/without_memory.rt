@@ -4,18 +4,16 @@
 ghost use Rattle.std.specs.Prelude.{◌≡◌, ◌≢◌};
 ghost use Rattle.moka_model.specs.declared.turns.Kind.{Kind};
 
+use crate::on_owned::{InLists, InSegments, InSlab};
 use crate::player::{SECOND, open_anew};
 use crate::returned::{Returned, done_of, insert_of, notice_of, option_of};
 use crate::subject::Subject;
-use crate::types::{NAME, Rules, SMALL, Text, Types, create_text, share};
+use crate::types::{NAME, Rules, SMALL, Text, create_text, share};
 use moka_model::notification::RemovalCause;
 use moka_model::turns::Kind;
 use moka_policy::policy::Refused;
-use moka_segmented::segment::SegmentedState;
 use moka_state::answers::Begun;
 use moka_state::handles::{Ticket, Turn};
-use moka_state::list_rows::ListRows;
-use moka_state::state::{CacheState, State};
 use std::alloc::Global;
 use std::process::Abort;
 use std::sync::Arc;
@@ -208,35 +206,35 @@ fn take_none_at_0<S: Subject + Drop>(rt: &impl Abort, alloc: Global) -> Result<(
 /// Calls that write nothing and clone no value do not allocate.
 #[test]
 fn takes_no_memory_but_for_writes(rt: HostRuntime) -> Result<(), Fail> {
-    take_none::<CacheState<u64, Text, Types>>(&rt, rt.alloc())
+    take_none::<InSlab>(&rt, rt.alloc())
 }
 
 /// The same over plain lists.
 #[test]
 fn takes_no_memory_but_for_writes_in_lists(rt: HostRuntime) -> Result<(), Fail> {
-    take_none::<State<u64, Text, Types, ListRows<u64, Text>>>(&rt, rt.alloc())
+    take_none::<InLists>(&rt, rt.alloc())
 }
 
 /// The same with segments.
 #[test]
 fn takes_no_memory_but_for_writes_in_a_segment(rt: HostRuntime) -> Result<(), Fail> {
-    take_none::<SegmentedState<u64, Text, Types>>(&rt, rt.alloc())
+    take_none::<InSegments>(&rt, rt.alloc())
 }
 
 /// At a capacity of 0 an insert does not allocate.
 #[test]
 fn takes_no_memory_to_write_at_a_capacity_of_0(rt: HostRuntime) -> Result<(), Fail> {
-    take_none_at_0::<CacheState<u64, Text, Types>>(&rt, rt.alloc())
+    take_none_at_0::<InSlab>(&rt, rt.alloc())
 }
 
 /// The same over plain lists.
 #[test]
 fn takes_no_memory_to_write_at_a_capacity_of_0_in_lists(rt: HostRuntime) -> Result<(), Fail> {
-    take_none_at_0::<State<u64, Text, Types, ListRows<u64, Text>>>(&rt, rt.alloc())
+    take_none_at_0::<InLists>(&rt, rt.alloc())
 }
 
 /// The same with segments.
 #[test]
 fn takes_no_memory_to_write_at_a_capacity_of_0_in_a_segment(rt: HostRuntime) -> Result<(), Fail> {
-    take_none_at_0::<SegmentedState<u64, Text, Types>>(&rt, rt.alloc())
+    take_none_at_0::<InSegments>(&rt, rt.alloc())
 }

@@ -1,6 +1,7 @@
 pub mod Asked
 pub mod Bounds
 pub mod Broadcast
+pub mod Called
 pub mod Callers
 pub mod Conserved
 pub mod Forms

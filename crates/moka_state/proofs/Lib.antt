@@ -18,6 +18,7 @@ pub mod Inserts
 pub mod LiveReads
 pub mod Loaders
 pub mod Maintained
+pub mod NamedTurns
 pub mod OrInserts
 pub mod Orders
 pub mod Removing

@@ -1,14 +1,15 @@
 //! The calls of a shared cache that may allocate, with their results.
 use crate::caches::{Numbers, Odd};
-use crate::returned::{
-    Returned, answer_of, became_of, computed_of, entry_of, option_of, optional_entry_of,
-    or_insert_of, parts, tried_compute_of, tried_entry_of, tried_of, value_of,
-};
+use crate::returned::{answer_of, or_insert_of};
 use moka::common::entry::Entry;
 use moka::ops::compute::Op;
 use moka::policy::Refused;
 use moka::sync::value_initializer::{
     Begun, BegunCompute, FinishRefused, Finished, Kind, Outcome, Ticket, Turn,
+};
+use moka_test_support::returned::{
+    Returned, became_of, computed_of, entry_of, option_of, optional_entry_of, parts,
+    tried_compute_of, tried_entry_of, tried_of, value_of,
 };
 use rand_core::SeedableRng;
 use rand_xoshiro::SplitMix64;

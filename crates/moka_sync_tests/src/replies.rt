@@ -3,11 +3,11 @@
 use crate::caches::{Builder, Numbers, Odd, cache};
 use crate::calls;
 use crate::calls::{Doing, Key};
-use crate::returned::{Returned, insert_of, option_of};
 use moka::PredicateError;
 use moka::policy::ManualClock;
 use moka::ready::FoldState;
 use moka::sync::{CacheBuilder, ConcurrentCacheExt};
+use moka_test_support::returned::{Returned, done_of, option_of};
 use moka_test_support::sharing::share;
 use rand_core::SeedableRng;
 use rand_xoshiro::SplitMix64;
@@ -73,7 +73,7 @@ fn removals<W: Wait + Drop>(rt: &impl Abort, cache: &Numbers<W>) {
 }
 
 fn insert<W: Wait + Drop>(cache: &Numbers<W>, key: u64, value: u64) -> Returned {
-    insert_of(calls::insert(cache, key, value))
+    done_of(calls::insert(cache, key, value))
 }
 
 fn get<W: Wait + Drop>(cache: &Numbers<W>, key: u64) -> Returned {

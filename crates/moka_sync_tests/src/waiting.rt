@@ -8,6 +8,7 @@ use crate::calls::{abandon, clone, get, insert, leave, next_of};
 use moka::ops::compute::Op;
 use moka::policy::Refused;
 use moka::sync::value_initializer::{Begun, FinishRefused, Kind, Outcome, Turn};
+use moka_test_support::call_as;
 use moka_test_support::marks::{
     Marks, count_so_far, inside_until_done, mark, new_marks, pause, reaches,
 };
@@ -64,50 +65,13 @@ fn make_call<W: Wait + Clock + Drop>(
     form: Form,
 ) -> bool {
     match form {
-        Form::With => gives(rt, cache, marks),
-        Form::Optionally => may_give(rt, cache, marks),
-        Form::Try => tries_to_give(rt, cache, marks),
-        Form::Compute => computes(rt, cache, marks),
-        Form::TryCompute => tries_to_compute(rt, cache, marks),
-        Form::Upsert => upserts(rt, cache, marks),
+        Form::With => call_as!(cache, With, inside_until_done(rt, marks)),
+        Form::Optionally => call_as!(cache, Optionally, inside_until_done(rt, marks)),
+        Form::Try => call_as!(cache, Try, inside_until_done(rt, marks)),
+        Form::Compute => call_as!(cache, Compute, inside_until_done(rt, marks)),
+        Form::TryCompute => call_as!(cache, TryCompute, inside_until_done(rt, marks)),
+        Form::Upsert => call_as!(cache, Upsert, inside_until_done(rt, marks)),
     }
-}
-
-fn gives<W: Wait + Clock + Drop>(rt: &W, cache: &Numbers<W>, marks: &Marks) -> bool {
-    cache.get_with(1, || inside_until_done(rt, marks)).is_ok()
-}
-
-fn may_give<W: Wait + Clock + Drop>(rt: &W, cache: &Numbers<W>, marks: &Marks) -> bool {
-    cache
-        .optionally_get_with(1, || Some(inside_until_done(rt, marks)))
-        .is_ok()
-}
-
-fn tries_to_give<W: Wait + Clock + Drop>(rt: &W, cache: &Numbers<W>, marks: &Marks) -> bool {
-    cache
-        .try_get_with(1, || Ok(inside_until_done(rt, marks)))
-        .is_ok()
-}
-
-fn upserts<W: Wait + Clock + Drop>(rt: &W, cache: &Numbers<W>, marks: &Marks) -> bool {
-    cache
-        .entry(1)
-        .and_upsert_with(|_| inside_until_done(rt, marks))
-        .is_ok()
-}
-
-fn computes<W: Wait + Clock + Drop>(rt: &W, cache: &Numbers<W>, marks: &Marks) -> bool {
-    cache
-        .entry(1)
-        .and_compute_with(|_| Op::Put(inside_until_done(rt, marks)))
-        .is_ok()
-}
-
-fn tries_to_compute<W: Wait + Clock + Drop>(rt: &W, cache: &Numbers<W>, marks: &Marks) -> bool {
-    cache
-        .entry(1)
-        .and_try_compute_with(|_| Ok(Op::Put(inside_until_done(rt, marks))))
-        .is_ok()
 }
 
 /// A `get` returns while the closure of another call runs.

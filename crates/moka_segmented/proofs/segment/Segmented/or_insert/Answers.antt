@@ -3,36 +3,27 @@ use Rattle.std.specs.Arc.{arc_value}
 use Rattle.moka_expiration.specs.Behaviour.{hash_by, behaviour_by}
 use Rattle.moka_expiration.specs.StateData.{StateData, estimates, settings_by}
 use Rattle.moka_model.specs.Calls.{OrInsert}
-use Rattle.moka_state.specs.Given.{Gives}
 use Rattle.moka_state.specs.Hashes.{IsHashOf}
 use Rattle.moka_state.specs.OrInsert.{of_or_insert}
-use Rattle.moka_segmented.specs.SegmentedData.{SegmentedData, data_of, segmented_settings_by}
-use Rattle.moka_segmented.proofs.Asked.{routed-asked}
+use Rattle.moka_segmented.specs.SegmentedData.{data_of}
+use Rattle.moka_segmented.proofs.Called.{called-at, called-reply, called-stands}
 use Rattle.moka_segmented.proofs.Hashing.{all-hash-set, hash-at}
-use Rattle.moka_segmented.proofs.Routed.{OnOk-by, OnErr-by, Routing, routed-follows, data-same}
+use Rattle.moka_segmented.proofs.Routed.{OnErr-by, data-same}
 use Rattle.moka_segmented.proofs.segment.Segmented.or_insert.Goals as goal
 
 pub returns-clause-reply : goal.returns-clause-reply
 returns-clause-reply g c =
-    let behaviour = behaviour_by (hash_by g.C.Hasher.BuildHasher.build_hasher g.C.Hasher.Hasher.Hasher.write g.C.Hasher.Hasher.Hasher.finish g.K.Hash.hash_input) g.C.CacheTypes.weight g.C.CacheTypes.lifetimes in
-    let frequency = estimates g.C.Frequency.FrequencySource.noted g.C.Frequency.FrequencySource.count in
     let it = c.self.inside in
-    let cache : SegmentedData _ _ _ _ _ _ _ = record { bits = it.bits; settings = data_of it.settings; segments = it.segments.items } in
-    let routing : Routing (segmented_settings_by behaviour (frequency g.C.Frequency.FrequencySource.opened) cache) it.segments.items c.index_mut.result.now c.place_of-place.result.index (arc_value c.args.key.now) =
-    record { here_is = c.index_mut.ensures.value; is = rw (← c.self.view_is, c.deref.ensures) at c.place_of-place.ensures.is; within = rw (← c.self.view_is) at c.place_of-place.ensures.within } in
-    let call = OrInsert (arc_value c.args.key.now) c.args.value c.args.now in
-    rw (← c.self.view_is) (routed-asked g.row.C-Error.Denot g.K.PartialEq.eq behaviour frequency g.C.Frequency.FrequencySource.opened cache _ _ (arc_value c.args.key.now) routing call refl (λ s steps. Gives g.K.PartialEq.eq g.V.Clone.is_clone g.V.Clone.is_infallible s steps call (of_or_insert c.or_insert_with_hash.result)) c.or_insert_with_hash.ensures.ends.reply)
+    let called = called-at g.C.Hasher.BuildHasher.build_hasher g.C.Hasher.Hasher.Hasher.write g.C.Hasher.Hasher.Hasher.finish g.K.Hash.hash_input g.C.CacheTypes.weight g.C.CacheTypes.lifetimes g.C.Frequency.FrequencySource.noted g.C.Frequency.FrequencySource.count g.C.Frequency.FrequencySource.opened
+    it.bits (data_of it.settings) it.segments.items c.index_mut.result.now c.place_of-place.result.index (arc_value c.args.key.now) c.index_mut.ensures.value (rw (← c.self.view_is, c.deref.ensures) at c.place_of-place.ensures.is) (rw (← c.self.view_is) at c.place_of-place.ensures.within) in
+    rw (← c.self.view_is) (called-reply g.K.PartialEq.eq g.V.Clone.is_clone g.V.Clone.is_infallible called (OrInsert (arc_value c.args.key.now) c.args.value c.args.now) refl (of_or_insert c.or_insert_with_hash.result) c.or_insert_with_hash.ensures.ends.reply)
 
 pub returns-clause-stands : goal.returns-clause-stands
 returns-clause-stands g c =
-    let behaviour = behaviour_by (hash_by g.C.Hasher.BuildHasher.build_hasher g.C.Hasher.Hasher.Hasher.write g.C.Hasher.Hasher.Hasher.finish g.K.Hash.hash_input) g.C.CacheTypes.weight g.C.CacheTypes.lifetimes in
-    let frequency = estimates g.C.Frequency.FrequencySource.noted g.C.Frequency.FrequencySource.count in
     let it = c.self.inside in
-    let cache : SegmentedData _ _ _ _ _ _ _ = record { bits = it.bits; settings = data_of it.settings; segments = it.segments.items } in
-    let routing : Routing (segmented_settings_by behaviour (frequency g.C.Frequency.FrequencySource.opened) cache) it.segments.items c.index_mut.result.now c.place_of-place.result.index (arc_value c.args.key.now) =
-    record { here_is = c.index_mut.ensures.value; is = rw (← c.self.view_is, c.deref.ensures) at c.place_of-place.ensures.is; within = rw (← c.self.view_is) at c.place_of-place.ensures.within } in
-    let call = OrInsert (arc_value c.args.key.now) c.args.value c.args.now in
-    rw (← c.self.view_is) (OnOk-by c.or_insert_with_hash.result (λ follows. routed-follows g.row.C-Error.Denot g.K.PartialEq.eq behaviour frequency g.C.Frequency.FrequencySource.opened cache _ _ (arc_value c.args.key.now) routing call c.or_insert_with_hash.new.self refl follows) c.or_insert_with_hash.ensures.ends.stands)
+    let called = called-at g.C.Hasher.BuildHasher.build_hasher g.C.Hasher.Hasher.Hasher.write g.C.Hasher.Hasher.Hasher.finish g.K.Hash.hash_input g.C.CacheTypes.weight g.C.CacheTypes.lifetimes g.C.Frequency.FrequencySource.noted g.C.Frequency.FrequencySource.count g.C.Frequency.FrequencySource.opened
+    it.bits (data_of it.settings) it.segments.items c.index_mut.result.now c.place_of-place.result.index (arc_value c.args.key.now) c.index_mut.ensures.value (rw (← c.self.view_is, c.deref.ensures) at c.place_of-place.ensures.is) (rw (← c.self.view_is) at c.place_of-place.ensures.within) in
+    rw (← c.self.view_is) (called-stands g.K.PartialEq.eq g.V.Clone.is_clone g.V.Clone.is_infallible called c.or_insert_with_hash.new.self (OrInsert (arc_value c.args.key.now) c.args.value c.args.now) refl c.or_insert_with_hash.result c.or_insert_with_hash.ensures.ends.stands)
 
 pub returns-clause-refused : goal.returns-clause-refused
 returns-clause-refused g c =

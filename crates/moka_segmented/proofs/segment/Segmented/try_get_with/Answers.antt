@@ -1,32 +1,16 @@
-use Rattle.std.proofs.Common.{None, option_map}
 use Rattle.moka_model.specs.declared.turns.Kind.TheVariants.{Try}
-use Rattle.moka_expiration.specs.Behaviour.{hash_by, behaviour_by}
-use Rattle.moka_expiration.specs.StateData.{estimates}
-use Rattle.moka_state.specs.Forms.{tried_outcome}
-use Rattle.moka_segmented.specs.SegmentedData.{SegmentedData, data_of, segmented_settings_by}
-use Rattle.moka_segmented.proofs.Forms.{routed-form, unasked-by}
+use Rattle.moka_state.specs.Forms.{tried_outcome, IsTried}
+use Rattle.moka_segmented.specs.SegmentedData.{data_of}
+use Rattle.moka_segmented.proofs.Called.{called-at, called-loads}
 use Rattle.moka_segmented.proofs.Hashing.{all-hash-set}
-use Rattle.moka_segmented.proofs.Routed.{Routing, data-same}
 use Rattle.moka_segmented.proofs.segment.Segmented.try_get_with.Goals as goal
 
 pub returns-clause-form : goal.returns-clause-form
 returns-clause-form g c =
-    let behaviour = behaviour_by (hash_by g.C.Hasher.BuildHasher.build_hasher g.C.Hasher.Hasher.Hasher.write g.C.Hasher.Hasher.Hasher.finish g.K.Hash.hash_input) g.C.CacheTypes.weight g.C.CacheTypes.lifetimes in
-    let frequency = estimates g.C.Frequency.FrequencySource.noted g.C.Frequency.FrequencySource.count in
     let it = c.self.inside in
-    let cache : SegmentedData _ _ _ _ _ _ _ = record { bits = it.bits; settings = data_of it.settings; segments = it.segments.items } in
-    let settings = segmented_settings_by behaviour (frequency g.C.Frequency.FrequencySource.opened) cache in
-    let routing : Routing settings it.segments.items c.index_mut.result.now c.place_of-place.result.index c.args.key =
-    record { here_is = c.index_mut.ensures.value; is = rw (← c.self.view_is) at c.place_of-place.ensures.is; within = rw (← c.self.view_is) at c.place_of-place.ensures.within } in
-    let form = c.try_get_with.ensures.form in
-    rw (← c.self.view_is) (
-      form.0,
-      form.1,
-      routed-form g.row.C-Error.Denot g.K.PartialEq.eq behaviour frequency g.C.Frequency.FrequencySource.opened cache _ _ c.args.key routing c.try_get_with.new.self g.V.Clone.is_clone g.V.Clone.is_infallible Try None c.args.now (option_map tried_outcome form.0) form.1 form.2,
-      form.3,
-      form.4,
-      unasked-by form.0 form.1 (λ same. data-same it.bits (data_of it.settings) it.segments.items c.place_of-place.result.index c.index_mut.result.now c.try_get_with.new.self c.index_mut.ensures.value same) form.5,
-    )
+    let called = called-at g.C.Hasher.BuildHasher.build_hasher g.C.Hasher.Hasher.Hasher.write g.C.Hasher.Hasher.Hasher.finish g.K.Hash.hash_input g.C.CacheTypes.weight g.C.CacheTypes.lifetimes g.C.Frequency.FrequencySource.noted g.C.Frequency.FrequencySource.count g.C.Frequency.FrequencySource.opened
+    it.bits (data_of it.settings) it.segments.items c.index_mut.result.now c.place_of-place.result.index c.args.key c.index_mut.ensures.value (rw (← c.self.view_is) at c.place_of-place.ensures.is) (rw (← c.self.view_is) at c.place_of-place.ensures.within) in
+    rw (← c.self.view_is) (called-loads g.K.PartialEq.eq g.V.Clone.is_clone g.V.Clone.is_infallible called c.try_get_with.new.self tried_outcome _ Try c.args.now IsTried c.try_get_with.result c.try_get_with.ensures.form)
 
 pub invariant_of-self : goal.invariant_of-self
 invariant_of-self g c =

@@ -1,4 +1,4 @@
-//! Makes the calls on an owned cache, over any row store.
+//! Makes the calls on an owned cache, with one segment or with two, over any row store.
 
 use crate::calls::Selected;
 use crate::returned::{Returned, option_of};
@@ -7,11 +7,16 @@ use crate::subject::{
     Asked, Begins, BeginsCompute, Collects, Finishes, Given, Subject, TextReply, TextStep, Tried,
 };
 use crate::types::{Every, Rules, Text, Types, settings};
+use either::{Either, Left, Right, for_both};
 use moka_model::entry::Entry;
 use moka_model::notification::Notice;
 use moka_model::turns::Kind;
 use moka_policy::policy::{CacheTypes, Predicate, Refused};
+use moka_segmented::opening::build_segments;
+use moka_segmented::segment::Segmented;
+use moka_state::expiring_rows::ExpiringRows;
 use moka_state::handles::{Ticket, Turn};
+use moka_state::list_rows::ListRows;
 use moka_state::or_insert::OrInsertRefused;
 use moka_state::predicate_error::PredicateError;
 use moka_state::rows::RowStore;
@@ -21,7 +26,19 @@ use rand_xoshiro::SplitMix64;
 use std::alloc::Global;
 use std::sync::Arc;
 
-impl<R: RowStore<u64, Text>> Subject for State<u64, Text, Types, R> {
+/// An owned cache with one segment or with two. Of two segments, the second has all keys.
+#[derive(Drop)]
+pub(crate) struct Owned<R: RowStore<u64, Text>, const SEGMENTS: u64> {
+    pub any: Either<State<u64, Text, Types, R>, Segmented<u64, Text, Types, R>>,
+}
+
+pub(crate) type InSlab = Owned<ExpiringRows<u64, Text>, 1>;
+
+pub(crate) type InLists = Owned<ListRows<u64, Text>, 1>;
+
+pub(crate) type InSegments = Owned<ExpiringRows<u64, Text>, 2>;
+
+impl<R: RowStore<u64, Text>, const SEGMENTS: u64> Subject for Owned<R, SEGMENTS> {
     ghost use Rattle.std.specs.Prelude.{◌≡◌, ◌≢◌, ℕ, IfOk};
     ghost use Rattle.std.specs.Arc.{arc_value};
     ghost use Rattle.std.specs.List.{AllByRecursion};
@@ -32,39 +49,49 @@ impl<R: RowStore<u64, Text>> Subject for State<u64, Text, Types, R> {
     ghost use Rattle.moka_state.specs.Step.{StepKeeps};
 
     fn open(alloc: Global, rules: Rules) -> Result<Self, Refused> {
-        State::new(alloc, settings(alloc, rules, 1)?)
+        let settings = settings(alloc, rules, SEGMENTS)?;
+        if SEGMENTS == 1 {
+            let any = Left(State::new(alloc, settings)?);
+            return Ok(Owned { any });
+        }
+        let any = Right(build_segments(alloc, settings, 1)?);
+        Ok(Owned { any })
     }
 
     fn key_of(number: u64) -> u64 {
-        number
+        if SEGMENTS == 1 {
+            number
+        } else {
+            number | 1 << 63
+        }
     }
 
     fn name(&self) -> Option<&str> {
-        self.name()
+        for_both!(&self.any, cache => cache.name())
     }
 
     fn shown_capacity(&self) -> Option<u64> {
-        self.policy().max_capacity()
+        for_both!(&self.any, cache => cache.policy().max_capacity())
     }
 
     fn contains_key(&self, key: u64, now: u64) -> bool {
-        self.contains_key(&key, now)
+        for_both!(&self.any, cache => cache.contains_key(&key, now))
     }
 
     fn entry_count(&self) -> u64 {
-        self.entry_count()
+        for_both!(&self.any, cache => cache.entry_count())
     }
 
     fn weighted_size(&self) -> u64 {
-        self.weighted_size()
+        for_both!(&self.any, cache => cache.weighted_size())
     }
 
     fn get(&mut self, key: u64, now: u64) -> Result<Option<Text>, Refused> {
-        self.get(&key, now)
+        for_both!(&mut self.any, cache => cache.get(&key, now))
     }
 
     fn insert(&mut self, key: u64, text: Text, now: u64) -> Result<(), InsertRefused<u64, Text>> {
-        self.insert(key, text, now)
+        for_both!(&mut self.any, cache => cache.insert(key, text, now))
     }
 
     fn or_insert(
@@ -73,54 +100,67 @@ impl<R: RowStore<u64, Text>> Subject for State<u64, Text, Types, R> {
         text: Text,
         now: u64,
     ) -> Result<Entry<u64, Text>, OrInsertRefused<Text>> {
-        self.or_insert(key, text, now)
+        for_both!(&mut self.any, cache => cache.or_insert(key, text, now))
     }
 
     fn or_default(&mut self, key: u64, now: u64) -> Result<Entry<u64, Text>, Refused> {
-        self.or_default(key, now)
+        for_both!(&mut self.any, cache => cache.or_default(key, now))
     }
 
     fn invalidate(&mut self, key: u64, now: u64) {
-        self.invalidate(&key, now);
+        for_both!(&mut self.any, cache => cache.invalidate(&key, now));
     }
 
     fn remove(&mut self, key: u64, now: u64) -> Result<Option<Text>, Refused> {
-        self.remove(&key, now)
+        for_both!(&mut self.any, cache => cache.remove(&key, now))
     }
 
     fn invalidate_all(&mut self) {
-        self.invalidate_all();
+        for_both!(&mut self.any, cache => cache.invalidate_all());
     }
 
     fn hide(&mut self) -> Result<(), PredicateError> {
-        let mut generator = SplitMix64::seed_from_u64(7);
-        match self.invalidate_entries_if(Every, &mut generator) {
-            Ok(_) => Ok(()),
-            Err(error) => Err(error),
+        match &mut self.any {
+            Left(state) => {
+                let mut generator = SplitMix64::seed_from_u64(7);
+                match state.invalidate_entries_if(Every, &mut generator) {
+                    Ok(_) => Ok(()),
+                    Err(error) => Err(error),
+                }
+            }
+            Right(cache) => cache.invalidate_entries_if(Every),
         }
     }
 
     fn run_pending_tasks(&mut self, now: u64) {
-        self.run_pending_tasks(now);
+        for_both!(&mut self.any, cache => cache.run_pending_tasks(now));
     }
 
     fn run_up_to(&mut self, limit: u64, now: u64) -> bool {
-        self.run_pending_tasks_up_to(limit, now)
+        for_both!(&mut self.any, cache => cache.run_pending_tasks_up_to(limit, now))
     }
 
+    /// Returns `Lost` for a cache with segments, which has no such call.
     fn scan_keys(&self) -> Returned {
-        match self.scan_keys() {
+        let Left(state) = &self.any else {
+            return Returned::Lost;
+        };
+        match state.scan_keys() {
             Ok(keys) => Returned::Counts(keys.len() as u64),
             Err(cause) => Returned::Refused(cause),
         }
     }
 
+    /// Returns `Lost` for a cache with segments, which has no such call.
     fn scan_get(&self, key: u64, now: u64) -> Returned {
-        option_of(self.scan_get(&key, now))
+        match &self.any {
+            Left(state) => option_of(state.scan_get(&key, now)),
+            Right(_) => Returned::Lost,
+        }
     }
 
     fn take_notice(&mut self) -> Option<Notice<u64, Text>> {
-        self.take_notice()
+        for_both!(&mut self.any, cache => cache.take_notice())
     }
 
     fn step(&mut self, step: TextStep) -> TextReply
@@ -128,7 +168,7 @@ impl<R: RowStore<u64, Text>> Subject for State<u64, Text, Types, R> {
             ⟦<Every as Predicate<u64, Text>>⟧.tests
             ⟦<Types as CacheTypes<u64, Text>>⟧.test step }
     {
-        self.step(step)
+        for_both!(&mut self.any, cache => cache.step(step))
     }
 
     fn run(&mut self, steps: Vec<TextStep>) -> Result<Vec<TextReply>, Refused>
@@ -136,7 +176,7 @@ impl<R: RowStore<u64, Text>> Subject for State<u64, Text, Types, R> {
             ⟦<Every as Predicate<u64, Text>>⟧.tests
             ⟦<Types as CacheTypes<u64, Text>>⟧.test) steps.items }
     {
-        self.run(steps)
+        for_both!(&mut self.any, cache => cache.run(steps))
     }
 
     fn load(&mut self, key: u64, text: Text, asked: Asked, now: u64) -> Result<Text, Refused> {
@@ -144,7 +184,7 @@ impl<R: RowStore<u64, Text>> Subject for State<u64, Text, Types, R> {
             asked.set(true);
             text
         };
-        self.get_with(key, init, now)
+        for_both!(&mut self.any, cache => cache.get_with(key, init, now))
     }
 
     fn load_if(
@@ -159,7 +199,7 @@ impl<R: RowStore<u64, Text>> Subject for State<u64, Text, Types, R> {
             asked.set(true);
             text
         };
-        self.get_with_if(key, init, move |_| replaces, now)
+        for_both!(&mut self.any, cache => cache.get_with_if(key, init, move |_| replaces, now))
     }
 
     fn load_optionally(
@@ -173,7 +213,7 @@ impl<R: RowStore<u64, Text>> Subject for State<u64, Text, Types, R> {
             asked.set(true);
             text
         };
-        self.optionally_get_with(key, init, now)
+        for_both!(&mut self.any, cache => cache.optionally_get_with(key, init, now))
     }
 
     fn try_load(&mut self, key: u64, given: Result<Text, u64>, asked: Asked, now: u64) -> Tried {
@@ -181,7 +221,7 @@ impl<R: RowStore<u64, Text>> Subject for State<u64, Text, Types, R> {
             asked.set(true);
             given
         };
-        self.try_get_with(key, init, now)
+        for_both!(&mut self.any, cache => cache.try_get_with(key, init, now))
     }
 
     fn load_by_ref(
@@ -195,7 +235,7 @@ impl<R: RowStore<u64, Text>> Subject for State<u64, Text, Types, R> {
             asked.set(true);
             text
         };
-        self.get_with_by_ref(&key, init, now)
+        for_both!(&mut self.any, cache => cache.get_with_by_ref(&key, init, now))
     }
 
     fn load_optionally_by_ref(
@@ -209,7 +249,7 @@ impl<R: RowStore<u64, Text>> Subject for State<u64, Text, Types, R> {
             asked.set(true);
             text
         };
-        self.optionally_get_with_by_ref(&key, init, now)
+        for_both!(&mut self.any, cache => cache.optionally_get_with_by_ref(&key, init, now))
     }
 
     fn try_load_by_ref(
@@ -223,9 +263,10 @@ impl<R: RowStore<u64, Text>> Subject for State<u64, Text, Types, R> {
             asked.set(true);
             given
         };
-        self.try_get_with_by_ref(&key, init, now)
+        for_both!(&mut self.any, cache => cache.try_get_with_by_ref(&key, init, now))
     }
 
+    /// Returns `Lost` for a cache with segments, which has no selectors.
     fn select(
         &mut self,
         key: u64,
@@ -235,10 +276,13 @@ impl<R: RowStore<u64, Text>> Subject for State<u64, Text, Types, R> {
         asked: Asked,
         now: u64,
     ) -> Returned {
+        let Left(state) = &mut self.any else {
+            return Returned::Lost;
+        };
         if !is_lent {
-            return reply_of_selector(self.entry(key, now), call, text, asked);
+            return reply_of_selector(state.entry(key, now), call, text, asked);
         }
-        match self.entry_by_ref(&key, now) {
+        match state.entry_by_ref(&key, now) {
             Ok(selector) => reply_of_selector(selector, call, text, asked),
             Err(cause) => Returned::Refused(cause),
         }
@@ -248,36 +292,38 @@ impl<R: RowStore<u64, Text>> Subject for State<u64, Text, Types, R> {
         requires { kind ≢ Kind.Compute }
         ensures { IfOk result (IsNamed kind (arc_value key.now)) }
     {
-        self.begin(key, kind, Some(move |_: &Text| replaces), now)
+        let replace_if = move |_: &Text| replaces;
+        for_both!(&mut self.any, cache => cache.begin(key, kind, Some(replace_if), now))
     }
 
     fn begin_by_ref(&mut self, key: u64, kind: Kind, now: u64) -> Begins
         requires { kind ≢ Kind.Compute }
     {
-        self.begin_by_ref(&key, kind, None::<fn(&Text) -> bool>, now)
+        let never = None::<fn(&Text) -> bool>;
+        for_both!(&mut self.any, cache => cache.begin_by_ref(&key, kind, never, now))
     }
 
     fn begin_compute(&mut self, key: &Arc<u64>, keep: bool, now: u64) -> BeginsCompute
         ensures { IfOk result (IsCompute (arc_value key.now)) }
     {
-        self.begin_compute(key, keep, now)
+        for_both!(&mut self.any, cache => cache.begin_compute(key, keep, now))
     }
 
     fn finish(&mut self, turn: Turn<u64>, outcome: Given, now: u64) -> Finishes
         requires { Fits ℕ turn.key.kind (outcome_of outcome) }
     {
-        self.finish(turn, outcome, now)
+        for_both!(&mut self.any, cache => cache.finish(turn, outcome, now))
     }
 
     fn abandon(&mut self, turn: Turn<u64>) -> Result<(), Refused> {
-        self.abandon(turn)
+        for_both!(&mut self.any, cache => cache.abandon(turn))
     }
 
     fn collect(&mut self, ticket: Ticket<u64>) -> Collects {
-        self.collect(ticket)
+        for_both!(&mut self.any, cache => cache.collect(ticket))
     }
 
     fn leave(&mut self, ticket: Ticket<u64>) -> Result<(), Refused> {
-        self.leave(ticket)
+        for_both!(&mut self.any, cache => cache.leave(ticket))
     }
 }

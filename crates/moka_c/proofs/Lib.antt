@@ -1,0 +1,6 @@
+mod Given
+mod NumbersAsBox
+mod Opened
+mod Sending
+pub mod Stored
+mod StringsAsBox

@@ -1,0 +1,5 @@
+use Rattle.moka_c.proofs.Opened.{on_open}
+use Rattle.moka_c.proofs.number_cache.moka_c_numbers_invalidate.Goals as goal
+
+pub returns-clause-stands : goal.returns-clause-stands
+returns-clause-stands c = on_open _ _ _ _ _ _ c.in-Some.ensures.taken c.deref_mut.ensures.value c.put.ensures c.invalidate.ensures.stands

@@ -1,0 +1,9 @@
+pub mod Buffers
+pub mod ByteWeights
+pub mod Codes
+pub mod Found
+pub mod Handles
+pub mod HeldNumbers
+pub mod HeldStrings
+pub mod Notices
+pub mod Settings
