@@ -13,6 +13,12 @@ static void expect(const char *call, uint32_t number, uint32_t wanted) {
     printf("%s: %s, not %s\n", call, moka_name(number), moka_name(wanted));
 }
 
+static void expect_that(const char *what, bool holds) {
+    if (holds) return;
+    failures++;
+    printf("not so: %s\n", what);
+}
+
 #define IS(wanted, call) expect(#call, call, wanted)
 
 static const size_t too_long = (size_t)PTRDIFF_MAX + 1;
@@ -42,7 +48,7 @@ static void pass_null_numbers(moka_numbers *cache, const moka_settings *settings
     moka_number_notice notice;
     IS(MOKA_NULL, moka_numbers_take_notice(NULL, &notice));
     IS(MOKA_NULL, moka_numbers_take_notice(cache, NULL));
-    expect("what is refused stores nothing", value == 7 && is_left ? MOKA_DONE : MOKA_ABSENT, MOKA_DONE);
+    expect_that("a refused call stores nothing", value == 7 && is_left);
 }
 
 /* The same for byte strings. */
@@ -86,8 +92,7 @@ static void pass_null_bytes(moka_bytes *cache, const moka_settings *settings) {
     IS(MOKA_NULL, moka_bytes_copy_value(NULL, out, sizeof out, &len));
     IS(MOKA_NULL, moka_bytes_copy_value(cache, NULL, 1, &len));
     IS(MOKA_NULL, moka_bytes_copy_value(cache, out, sizeof out, NULL));
-    bool is_kept = value == 7 && is_left && len == 7 && !strcmp(out, "abc");
-    expect("what is refused stores nothing", is_kept ? MOKA_DONE : MOKA_ABSENT, MOKA_DONE);
+    expect_that("a refused call stores nothing", value == 7 && is_left && len == 7 && !strcmp(out, "abc"));
 }
 
 /* Calls each function that takes a length with one that no object has. */
@@ -111,10 +116,10 @@ static void pass_no_bytes(moka_bytes *cache) {
     size_t len = 7;
     IS(MOKA_DONE, moka_bytes_insert(cache, NULL, 0, NULL, 0, 0));
     IS(MOKA_DONE, moka_bytes_get(cache, NULL, 0, 0, NULL, 0, &len));
-    expect("the value has no bytes", len == 0 ? MOKA_DONE : MOKA_ABSENT, MOKA_DONE);
+    expect_that("the value has no bytes", len == 0);
     IS(MOKA_DONE, moka_bytes_insert(cache, NULL, 0, "abc", 3, 0));
     IS(MOKA_SHORT_BUFFER, moka_bytes_get(cache, NULL, 0, 0, NULL, 0, &len));
-    expect("the value has three bytes", len == 3 ? MOKA_DONE : MOKA_ABSENT, MOKA_DONE);
+    expect_that("the value has three bytes", len == 3);
     IS(MOKA_DONE, moka_bytes_contains_key(cache, NULL, 0, 0));
     IS(MOKA_DONE, moka_bytes_invalidate(cache, NULL, 0, 0));
     IS(MOKA_ABSENT, moka_bytes_contains_key(cache, NULL, 0, 0));
@@ -175,10 +180,10 @@ static void open_refused(moka_numbers *numbers, moka_bytes *bytes) {
 /* Each number has a name of its own, and no other number has one. */
 static void name_numbers(void) {
     for (uint32_t n = MOKA_DONE; n <= MOKA_TOO_LONG; n++)
-        for (uint32_t m = 0; m < n; m++)
-            if (!strcmp(moka_name(m), moka_name(n))) expect("names differ", m, n);
-    expect("no other number has a name", strcmp(moka_name(MOKA_TOO_LONG + 1), "Unknown") ? MOKA_DONE : MOKA_ABSENT, MOKA_ABSENT);
-    expect("no other number has a name", strcmp(moka_name(UINT32_MAX), "Unknown") ? MOKA_DONE : MOKA_ABSENT, MOKA_ABSENT);
+        for (uint32_t m = 0; m < n; m++) expect_that("two numbers have two names", strcmp(moka_name(m), moka_name(n)));
+    expect_that("no number is called Unknown", strcmp(moka_name(MOKA_TOO_LONG), "Unknown"));
+    expect_that("the next number has no name", !strcmp(moka_name(MOKA_TOO_LONG + 1), "Unknown"));
+    expect_that("the greatest number has no name", !strcmp(moka_name(UINT32_MAX), "Unknown"));
 }
 
 int main(void) {
