@@ -1,5 +1,6 @@
 //! A cache whose keys and values are byte strings.
 
+use crate::calls::common_calls;
 use crate::ffi::{self, Cause, Handle, ABSENT, DONE, SHORT_BUFFER};
 use crate::shared::OwnedCache;
 use crate::{Error, Notice, Settings};
@@ -9,13 +10,12 @@ const ROOM: usize = 256;
 
 type Copy = unsafe extern "C" fn(&mut Handle, *mut u8, usize, &mut usize) -> u32;
 
+type Find = unsafe extern "C" fn(&mut Handle, *const u8, usize, u64, *mut u8, usize, &mut usize) -> u32;
+
 /// A cache whose keys and values are byte strings. A failed call leaves it as it was.
 pub struct Cache {
     handle: Handle,
 }
-
-// SAFETY: the library proves that its handle may go to another thread.
-unsafe impl Send for Cache {}
 
 impl Cache {
     /// Creates an empty cache.
@@ -39,18 +39,7 @@ impl Cache {
     ///
     /// - `OutOfMemory`: an allocation failed.
     pub fn get(&mut self, key: &[u8], now: u64) -> Result<Option<Vec<u8>>, Error> {
-        let mut out = [0; ROOM];
-        let mut len = 0;
-        // SAFETY: the pointers and the lengths are those of slices.
-        let number = unsafe {
-            ffi::moka_c_bytes_get(&mut self.handle, key.as_ptr(), key.len(), now, out.as_mut_ptr(), ROOM, &mut len)
-        };
-        match number {
-            DONE => Ok(Some(out[..len].to_vec())),
-            SHORT_BUFFER => Ok(Some(self.kept(len, ffi::moka_c_bytes_copy_value))),
-            ABSENT => Ok(None),
-            number => Err(Error::of(number)),
-        }
+        self.find(key, now, ffi::moka_c_bytes_get)
     }
 
     /// Removes the entry of `key`, live or expired, and queues its notice. Returns the value if it was live.
@@ -59,18 +48,7 @@ impl Cache {
     ///
     /// - `OutOfMemory`: an allocation failed.
     pub fn remove(&mut self, key: &[u8], now: u64) -> Result<Option<Vec<u8>>, Error> {
-        let mut out = [0; ROOM];
-        let mut len = 0;
-        // SAFETY: the pointers and the lengths are those of slices.
-        let number = unsafe {
-            ffi::moka_c_bytes_remove(&mut self.handle, key.as_ptr(), key.len(), now, out.as_mut_ptr(), ROOM, &mut len)
-        };
-        match number {
-            DONE => Ok(Some(out[..len].to_vec())),
-            SHORT_BUFFER => Ok(Some(self.kept(len, ffi::moka_c_bytes_copy_value))),
-            ABSENT => Ok(None),
-            number => Err(Error::of(number)),
-        }
+        self.find(key, now, ffi::moka_c_bytes_remove)
     }
 
     /// Inserts an entry, or overwrites it, which queues a notice of the old value.
@@ -117,37 +95,6 @@ impl Cache {
         }
     }
 
-    /// Marks all entries as invalidated. A later maintenance removes them.
-    pub fn invalidate_all(&mut self) {
-        unsafe { ffi::moka_c_bytes_invalidate_all(&mut self.handle) };
-    }
-
-    /// Runs a maintenance, and queues a notice of each entry that it evicts.
-    pub fn run_pending_tasks(&mut self, now: u64) {
-        unsafe { ffi::moka_c_bytes_run_pending_tasks(&mut self.handle, now) };
-    }
-
-    /// Runs a maintenance that evicts at most `limit` entries. Returns whether a part is left to do.
-    pub fn run_pending_tasks_up_to(&mut self, limit: u64, now: u64) -> bool {
-        let mut is_left = false;
-        unsafe { ffi::moka_c_bytes_run_pending_tasks_up_to(&mut self.handle, limit, now, &mut is_left) };
-        is_left
-    }
-
-    /// Returns how many entries are stored, pending and expired ones included.
-    pub fn entry_count(&mut self) -> u64 {
-        let mut count = 0;
-        unsafe { ffi::moka_c_bytes_entry_count(&mut self.handle, &mut count) };
-        count
-    }
-
-    /// Returns the total weight of the stored entries, pending and expired ones included.
-    pub fn weighted_size(&mut self) -> u64 {
-        let mut weight = 0;
-        unsafe { ffi::moka_c_bytes_weighted_size(&mut self.handle, &mut weight) };
-        weight
-    }
-
     /// Removes and returns the oldest notice, if one is queued.
     pub fn take_notice(&mut self) -> Option<Notice<Vec<u8>, Vec<u8>>> {
         let mut notice = ffi::BytesNotice { key_len: 0, value_len: 0, cause: 0 };
@@ -158,6 +105,21 @@ impl Cache {
                 cause: Cause::of(notice.cause),
             }),
             _ => None,
+        }
+    }
+
+    // Looks a key up by one of the two calls that find a value.
+    fn find(&mut self, key: &[u8], now: u64, find: Find) -> Result<Option<Vec<u8>>, Error> {
+        let mut out = [0; ROOM];
+        let mut len = 0;
+        // SAFETY: the pointers and the lengths are those of slices.
+        let number =
+            unsafe { find(&mut self.handle, key.as_ptr(), key.len(), now, out.as_mut_ptr(), ROOM, &mut len) };
+        match number {
+            DONE => Ok(Some(out[..len].to_vec())),
+            SHORT_BUFFER => Ok(Some(self.kept(len, ffi::moka_c_bytes_copy_value))),
+            ABSENT => Ok(None),
+            number => Err(Error::of(number)),
         }
     }
 
@@ -172,11 +134,14 @@ impl Cache {
     }
 }
 
-impl Drop for Cache {
-    fn drop(&mut self) {
-        unsafe { ffi::moka_c_bytes_close(&mut self.handle) };
-    }
-}
+common_calls!(
+    moka_c_bytes_invalidate_all,
+    moka_c_bytes_run_pending_tasks,
+    moka_c_bytes_run_pending_tasks_up_to,
+    moka_c_bytes_entry_count,
+    moka_c_bytes_weighted_size,
+    moka_c_bytes_close
+);
 
 impl OwnedCache for Cache {
     type Key = [u8];

@@ -10,6 +10,7 @@
 #![warn(missing_docs)]
 
 pub mod bytes;
+mod calls;
 mod error;
 mod ffi;
 pub mod numbers;

@@ -1,5 +1,6 @@
 //! A cache whose keys and values are `u64`s.
 
+use crate::calls::common_calls;
 use crate::ffi::{self, Cause, Handle, ABSENT, DONE};
 use crate::shared::OwnedCache;
 use crate::{Error, Notice, Settings};
@@ -8,9 +9,6 @@ use crate::{Error, Notice, Settings};
 pub struct Cache {
     handle: Handle,
 }
-
-// SAFETY: the library proves that its handle may go to another thread.
-unsafe impl Send for Cache {}
 
 impl Cache {
     /// Creates an empty cache.
@@ -78,37 +76,6 @@ impl Cache {
         unsafe { ffi::moka_c_numbers_invalidate(&mut self.handle, key, now) };
     }
 
-    /// Marks all entries as invalidated. A later maintenance removes them.
-    pub fn invalidate_all(&mut self) {
-        unsafe { ffi::moka_c_numbers_invalidate_all(&mut self.handle) };
-    }
-
-    /// Runs a maintenance, and queues a notice of each entry that it evicts.
-    pub fn run_pending_tasks(&mut self, now: u64) {
-        unsafe { ffi::moka_c_numbers_run_pending_tasks(&mut self.handle, now) };
-    }
-
-    /// Runs a maintenance that evicts at most `limit` entries. Returns whether a part is left to do.
-    pub fn run_pending_tasks_up_to(&mut self, limit: u64, now: u64) -> bool {
-        let mut is_left = false;
-        unsafe { ffi::moka_c_numbers_run_pending_tasks_up_to(&mut self.handle, limit, now, &mut is_left) };
-        is_left
-    }
-
-    /// Returns how many entries are stored, pending and expired ones included.
-    pub fn entry_count(&mut self) -> u64 {
-        let mut count = 0;
-        unsafe { ffi::moka_c_numbers_entry_count(&mut self.handle, &mut count) };
-        count
-    }
-
-    /// Returns the total weight of the stored entries, pending and expired ones included.
-    pub fn weighted_size(&mut self) -> u64 {
-        let mut weight = 0;
-        unsafe { ffi::moka_c_numbers_weighted_size(&mut self.handle, &mut weight) };
-        weight
-    }
-
     /// Removes and returns the oldest notice, if one is queued.
     pub fn take_notice(&mut self) -> Option<Notice<u64, u64>> {
         let mut notice = ffi::NumberNotice { key: 0, value: 0, cause: 0 };
@@ -119,11 +86,14 @@ impl Cache {
     }
 }
 
-impl Drop for Cache {
-    fn drop(&mut self) {
-        unsafe { ffi::moka_c_numbers_close(&mut self.handle) };
-    }
-}
+common_calls!(
+    moka_c_numbers_invalidate_all,
+    moka_c_numbers_run_pending_tasks,
+    moka_c_numbers_run_pending_tasks_up_to,
+    moka_c_numbers_entry_count,
+    moka_c_numbers_weighted_size,
+    moka_c_numbers_close
+);
 
 impl OwnedCache for Cache {
     type Key = u64;

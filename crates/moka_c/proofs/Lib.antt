@@ -1,6 +1,7 @@
 mod Given
-mod NumbersAsBox
+mod HeldBox
+mod NumbersHeld
 mod Opened
 mod Sending
 pub mod Stored
-mod StringsAsBox
+mod StringsHeld

@@ -3,7 +3,6 @@ pub mod ByteWeights
 pub mod Codes
 pub mod Found
 pub mod Handles
-pub mod HeldNumbers
-pub mod HeldStrings
+pub mod Held
 pub mod Notices
 pub mod Settings

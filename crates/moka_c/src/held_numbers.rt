@@ -1,7 +1,9 @@
 //! The box of a cache of numbers, or none, as a struct that C may hold.
 ghost use Rattle.std.specs.Prelude.{◌≡◌, Option, Some, None, IsSome};
+ghost use Rattle.std.specs.Coded.{coded_option};
+ghost use Rattle.moka_c.specs.Held.{box_held};
+ghost use Rattle.moka_c.specs.contracts.numbers.Numbers.{the_row};
 ghost use Rattle.moka_c.specs.declared.numbers.Numbers.{Numbers};
-ghost use Rattle.moka_c.specs.HeldNumbers.{numbers_coded, numbers_held};
 
 use crate::numbers::Numbers;
 use crate::parts::Parts;
@@ -16,11 +18,11 @@ use std::marker::Model;
 pub struct HeldNumbers {
     at: *mut u8,
     alloc: Global,
-    pub ghost held: { Option Numbers } by { numbers_coded },
+    pub ghost held: { Option Numbers } by { coded_option the_row.coded },
 }
 
 impl Model for HeldNumbers {
-    ghost also_owns = { λ h. numbers_held h.alloc h.at h.held };
+    ghost also_owns = { λ h. box_held the_row h.alloc h.at h.held };
 }
 
 impl HeldNumbers {

@@ -1,7 +1,9 @@
 //! The box of a cache of byte strings, or none, as a struct that C may hold.
 ghost use Rattle.std.specs.Prelude.{◌≡◌, Option, Some, None, IsSome};
+ghost use Rattle.std.specs.Coded.{coded_option};
+ghost use Rattle.moka_c.specs.Held.{box_held};
+ghost use Rattle.moka_c.specs.contracts.byte_strings.ByteStrings.{the_row};
 ghost use Rattle.moka_c.specs.declared.byte_strings.ByteStrings.{ByteStrings};
-ghost use Rattle.moka_c.specs.HeldStrings.{strings_coded, strings_held};
 
 use crate::byte_strings::ByteStrings;
 use crate::parts::Parts;
@@ -16,11 +18,11 @@ use std::marker::Model;
 pub struct HeldStrings {
     at: *mut u8,
     alloc: Global,
-    pub ghost held: { Option ByteStrings } by { strings_coded },
+    pub ghost held: { Option ByteStrings } by { coded_option the_row.coded },
 }
 
 impl Model for HeldStrings {
-    ghost also_owns = { λ h. strings_held h.alloc h.at h.held };
+    ghost also_owns = { λ h. box_held the_row h.alloc h.at h.held };
 }
 
 impl HeldStrings {

@@ -1,0 +1,23 @@
+-- `HeldNumbers` holds a box.
+use mathlib.Core.Path.{refl}
+use Rattle.moka_c.proofs.HeldBox.{Holding}
+use Rattle.moka_c.specs.contracts.numbers.Numbers as Home
+use Rattle.moka_c.proofs.numbers.Numbers.TheLaws as home
+use Rattle.moka_c.specs.contracts.held_numbers.HeldNumbers as Held
+
+abbrev pub holding : Holding
+holding = record {
+  row = Home.the_row;
+  laws = home.the_row_laws;
+  Held = Held.the_row;
+  name = Held.the_type.name;
+  at = λ h. h.at;
+  alloc = λ h. h.alloc;
+  held = λ h. h.held;
+  make = λ p a o. record { at = p; alloc = a; held = o };
+  has = λ p a o. refl;
+  owns = λ h vs. refl;
+  owned = λ p a o vs. refl;
+  last = λ h. tt;
+  silent = λ h f. refl;
+}
