@@ -20,7 +20,7 @@ use types.Run.{stop, fld, no_more, and_then, of_opd, returns, enter}
 use types.ByLocal.{alloc_all, pass_all, free_all, look_at, get, get_in, sets}
 use denote.Exit.{yes, Last, left}
 use denote.RattleType.{RattleType, Valss}
-use denote.Param.{layout}
+use denote.Param.{layout, param}
 use denote.Param.Laws.{Laws}
 use denote.RawPtr.{Ptr, RawPtr, block_ptr, null_ptr, ptr_val, rawptr_vals, rawptr_Tells}
 use denote.Signature.{plain}
@@ -40,6 +40,7 @@ use Rattle.std.proofs.BoxSteps.Steps.{box_out, box_in}
 use Rattle.std.specs.Prelude.{Option, Some, None, IsSome}
 use Rattle.std.proofs.lemmas.Bool.{false≢true}
 use Rattle.std.specs.Global.{Global}
+use Rattle.std.specs.Box.Ownership.{box_owns}
 use Rattle.moka_c.specs.Held.{box_held}
 use Rattle.moka_c.specs.contracts.parts.Parts as Parts
 use Rattle.std.specs.contracts.alloc.Global as Heap
@@ -163,6 +164,8 @@ pub record Holding : Type 2 where
   pub has : (p : Ptr) (a : Global) (o : Option row.Denot) → held (make p a o) ≡ o
   pub owns : (x : Held.Denot) (vs : List Val) → Held.own_val x vs ≡ fsep (pair_owns (at x) (alloc x) vs) (box_held row (alloc x) (at x) (held x))
   pub owned : (p : Ptr) (a : Global) (o : Option row.Denot) (vs : List Val) → fsep (pair_owns p a vs) (box_held row a p o) ≡ Held.own_val (make p a o) vs
+  -- the box owns it as that of a type parameter
+  pub boxed : (a : Global) (p : Ptr) (x : row.Denot) → box_owns (ghosts.dealloc_token a) row p x ≡ box_owns (ghosts.dealloc_token a) (param 0 row) p x
   pub last : (x : Held.Denot) → Last (Held.exit yes) x
   pub silent : (x : Held.Denot) (f : Last (Held.exit yes) x) → left (Held.exit yes) x f ≡ ftrue
 
@@ -179,14 +182,19 @@ module _ (S : Holding) where
   abbrev filled : PartsOf.Denot → S.Held.Denot → Type 0
   filled p h = S.held h ≡ Some p.value
 
+  -- the parts own what the box owns
+  as_box : (p : Ptr) (a : Global) (x : (S.row).Denot) (vs : List Val)
+      → fsep (pair_owns p a vs) (box_owns (ghosts.dealloc_token a) S.row p x) ≡ (B box_of).own_val (record { ptr = p; alloc = a; value = x }) vs
+  as_box p a x vs = ap (λ (F : Fml). fsep (pair_owns p a vs) F) (S.boxed a p x)
+
   into : (h : S.Held.Denot) → IsSome (S.held h) → Hands box_of S.Held PartsOf (λ x p. filled p x) h
   into h some =
       let x = (the_value (S.held h) some).0 in let is = (the_value (S.held h) some).1 in
       record {
         box = record { ptr = S.at h; alloc = S.alloc h; value = x };
-        opens = λ vs. S.owns h vs ∙ ap (λ (o : Option (S.row).Denot). fsep (pair_owns (S.at h) (S.alloc h) vs) (box_held S.row (S.alloc h) (S.at h) o)) is;
+        opens = λ vs. S.owns h vs ∙ ap (λ (o : Option (S.row).Denot). fsep (pair_owns (S.at h) (S.alloc h) vs) (box_held S.row (S.alloc h) (S.at h) o)) is ∙ as_box (S.at h) (S.alloc h) x vs;
         made = record { ptr = S.at h; alloc = S.alloc h; value = x };
-        closes = λ vs. refl;
+        closes = λ vs. sym (as_box (S.at h) (S.alloc h) x vs);
         holds = is;
         last = S.last h;
       }
@@ -231,9 +239,9 @@ module _ (S : Holding) where
       pub of_parts_meets : (k : Callee) → Closed 𝓤 𝓛.H 𝓣.C 𝓣.Λ k (moving box_of parts_name S.name) → Meets 𝓛 (ended PartsOf S.Held).signature (𝓣.C k) (closing 𝓛 (ended PartsOf S.Held) (clauses PartsOf S.Held filled 𝓛 (λ p. emp 𝓤)))
       of_parts_meets = handed box_of parts_name S.name PartsOf S.Held filled 𝓛 𝓜 𝓡 (λ x f. refl) (λ p. record {
         box = record { ptr = p.ptr; alloc = p.alloc; value = p.value };
-        opens = λ vs. refl;
+        opens = as_box p.ptr p.alloc p.value;
         made = S.make p.ptr p.alloc (Some p.value);
-        closes = S.owned p.ptr p.alloc (Some p.value);
+        closes = λ vs. sym (as_box p.ptr p.alloc p.value vs) ∙ S.owned p.ptr p.alloc (Some p.value) vs;
         holds = S.has p.ptr p.alloc (Some p.value);
         last = tt;
       })
