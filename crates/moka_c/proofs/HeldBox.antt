@@ -233,10 +233,10 @@ module _ (S : Holding) where
     gives_empty κs a = record { ghost = Unit {0}; requires = λ _. emp 𝓤; ensures = λ _ r _. fact 𝓤 (S.held r ≡ None) }
 
     module _ (𝓜 : Model 𝓤 𝓛.H) (𝓡 : Running 𝓤 𝓛.H 𝓜) where
-      abbrev 𝓣 : MachineTables 𝓤 𝓛.H 𝓜
-      𝓣 = tables 𝓤 𝓛.H 𝓜 𝓡 𝓡.env
+      abbrev 𝓢 : MachineTables 𝓤 𝓛.H 𝓜
+      𝓢 = tables 𝓤 𝓛.H 𝓜 𝓡 𝓡.env
 
-      pub of_parts_meets : (k : Callee) → Closed 𝓤 𝓛.H 𝓣.C 𝓣.Λ k (moving box_of parts_name S.name) → Meets 𝓛 (ended PartsOf S.Held).signature (𝓣.C k) (closing 𝓛 (ended PartsOf S.Held) (clauses PartsOf S.Held filled 𝓛 (λ p. emp 𝓤)))
+      pub of_parts_meets : (k : Callee) → Closed 𝓤 𝓛.H 𝓢.C 𝓢.Λ k (moving box_of parts_name S.name) → Meets 𝓛 (ended PartsOf S.Held).signature (𝓢.C k) (closing 𝓛 (ended PartsOf S.Held) (clauses PartsOf S.Held filled 𝓛 (λ p. emp 𝓤)))
       of_parts_meets = handed box_of parts_name S.name PartsOf S.Held filled 𝓛 𝓜 𝓡 (λ x f. refl) (λ p. record {
         box = record { ptr = p.ptr; alloc = p.alloc; value = p.value };
         opens = as_box p.ptr p.alloc p.value;
@@ -246,11 +246,11 @@ module _ (S : Holding) where
         last = tt;
       })
 
-      pub into_parts_meets : (k : Callee) → Closed 𝓤 𝓛.H 𝓣.C 𝓣.Λ k (moving box_of S.name parts_name) → Meets 𝓛 (ended S.Held PartsOf).signature (𝓣.C k)
+      pub into_parts_meets : (k : Callee) → Closed 𝓤 𝓛.H 𝓢.C 𝓢.Λ k (moving box_of S.name parts_name) → Meets 𝓛 (ended S.Held PartsOf).signature (𝓢.C k)
           (closing 𝓛 (ended S.Held PartsOf) (clauses S.Held PartsOf (λ h p. filled p h) 𝓛 (λ h. fact 𝓤 (IsSome (S.held h)))))
       into_parts_meets = handed_if box_of S.name parts_name S.Held PartsOf (λ h p. filled p h) 𝓛 𝓜 𝓡 S.silent (λ h. IsSome (S.held h)) into
 
-      pub empty_meets : (k : Callee) → Closed 𝓤 𝓛.H 𝓣.C 𝓣.Λ k making → Meets 𝓛 empties.signature (𝓣.C k) (closing 𝓛 empties (gives_empty 𝓛))
+      pub empty_meets : (k : Callee) → Closed 𝓤 𝓛.H 𝓢.C 𝓢.Λ k making → Meets 𝓛 empties.signature (𝓢.C k) (closing 𝓛 empties (gives_empty 𝓛))
       empty_meets k closed =
           let W = walk_of 𝓛 empties left_nothing (gives_empty 𝓛) in
           proved 𝓛 empties left_nothing (gives_empty 𝓛) 𝓜 𝓡 (Goes-dropped 𝓛 0 (plain (λ _. RawPtr)) yes (λ κs x w. refl), (Goes-dropped 𝓛 0 (plain (λ _. Heap.the_row)) yes (λ κs x w. refl), tt))
