@@ -250,10 +250,10 @@ module _ (S : Holding) where
           (closing 𝓛 (ended S.Held PartsOf) (clauses S.Held PartsOf (λ h p. filled p h) 𝓛 (λ h. fact 𝓤 (IsSome (S.held h)))))
       into_parts_meets = handed_if box_of S.name parts_name S.Held PartsOf (λ h p. filled p h) 𝓛 𝓜 𝓡 S.silent (λ h. IsSome (S.held h)) into
 
-      pub empty_meets : (k : Callee) → Closed 𝓤 𝓛.H 𝓢.C 𝓢.Λ k making → Meets 𝓛 empties.signature (𝓢.C k) (closing 𝓛 empties (gives_empty 𝓛))
+      pub empty_meets : (k : Callee) → Closed 𝓤 𝓛.H 𝓢.C 𝓢.Λ k making → Meets 𝓛 empties.signature (𝓢.C k) (closing 𝓛 empties gives_empty)
       empty_meets k closed =
-          let W = walk_of 𝓛 empties left_nothing (gives_empty 𝓛) in
-          proved 𝓛 empties left_nothing (gives_empty 𝓛) 𝓜 𝓡 (Goes-dropped 𝓛 0 (plain (λ _. RawPtr)) yes (λ κs x w. refl), (Goes-dropped 𝓛 0 (plain (λ _. Heap.the_row)) yes (λ κs x w. refl), tt))
+          let W = walk_of 𝓛 empties left_nothing gives_empty in
+          proved 𝓛 empties left_nothing gives_empty 𝓜 𝓡 (Goes-dropped 𝓛 0 (plain (λ _. RawPtr)) yes (λ κs x w. refl), (Goes-dropped 𝓛 0 (plain (λ _. Heap.the_row)) yes (λ κs x w. refl), tt))
           k making closed (λ κs. (rawptr_vals, ((λ _. heap_val ∷ []), tt))) (λ κs. (rawptr_Tells, (heap_Tells, tt))) (λ κs qs bounds a _ are.
           let p : Ptr = a.0 in let h = a.1.0 in
           let w : Val = vstruct (vcons (ptr_val p) (vcons heap_val vnil)) in
@@ -265,5 +265,5 @@ module _ (S : Holding) where
           move ! (1 ∷ 2 ∷ []) $ fjoin ! $ move ! (1 ∷ 0 ∷ []) $ fjoin ! $ feq_i ! (List Val) (w ∷ []) (w ∷ []) refl $ fjoin ! $
           fpack ! (Valss (RawPtr ∷ Heap.the_row ∷ [])) (within pair (p, (h, tt)) (w ∷ [])) (ptr_val p ∷ [], (heap_val ∷ [], tt)) $
           nothing ! $ move ! (1 ∷ 0 ∷ []) $ fjoin ! $ rewrite ! 0 (λ (F : Fml). ‵ F) (S.owned p h None (w ∷ [])) refl $
-          suffices ! _ (ends_at 𝓛 empties left_nothing (gives_empty 𝓛) y w (S.make p h None) (tt, (tt, tt)) (tt, (tt, tt))) $ says ! (S.has p h None) $
+          suffices ! _ (ends_at 𝓛 empties left_nothing gives_empty y w (S.make p h None) (tt, (tt, tt)) (tt, (tt, tt))) $ says ! (S.has p h None) $
           nothing ! $ nothing ! $ fjoin ! $ nothing ! $ fjoin ! $ join ! $ nothing ! $ join ! $ done !))
