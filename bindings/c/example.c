@@ -47,7 +47,7 @@ static void run_sessions(void) {
         .time_to_live = {true, 8 * second},
         .time_to_idle = {true, 4 * second},
     };
-    expect("get of a closed handle", moka_bytes_contains_key(&sessions, "a", 1, 0), MOKA_CLOSED);
+    expect("contains_key of a closed handle", moka_bytes_contains_key(&sessions, "a", 1, 0), MOKA_CLOSED);
     expect("open", moka_bytes_open(&sessions, &settings), MOKA_DONE);
     expect("open again", moka_bytes_open(&sessions, &settings), MOKA_OPEN_ALREADY);
     expect("insert", moka_bytes_insert(&sessions, "s1", 2, "Alice", 5, 0), MOKA_DONE);

@@ -14,7 +14,9 @@
  * - malloc, realloc and free are those of one allocator. No call is made in a signal handler, or in the child of a process with threads.
  *
  * What every call returns: a number of enum moka_number. A handle without a cache is refused with MOKA_CLOSED. A call that fails leaves
- * the cache as it was. Moments are nanoseconds, counted from wherever the caller likes; one before the latest counts as the latest. */
+ * the cache as it was, and stores nothing through its pointers. (MOKA_ABSENT and MOKA_SHORT_BUFFER are no failures: the call is done.)
+ *
+ * Moments are nanoseconds, counted from wherever the caller likes; one before the latest counts as the latest. */
 #ifndef MOKA_C_H
 #define MOKA_C_H
 

@@ -20,7 +20,7 @@ use types.Run.{stop, fld, no_more, and_then, of_opd, returns, enter}
 use types.ByLocal.{alloc_all, pass_all, free_all, look_at, get, get_in, sets}
 use denote.Exit.{yes, Last, left}
 use denote.RattleType.{RattleType, Valss}
-use denote.Param.{layout}
+use denote.Param.{layout, param}
 use denote.Param.Laws.{Laws}
 use denote.RawPtr.{Ptr, RawPtr, block_ptr, null_ptr, ptr_val, rawptr_vals, rawptr_Tells}
 use denote.Signature.{plain}
@@ -40,6 +40,7 @@ use Rattle.std.proofs.BoxSteps.Steps.{box_out, box_in}
 use Rattle.std.specs.Prelude.{Option, Some, None, IsSome}
 use Rattle.std.proofs.lemmas.Bool.{false≢true}
 use Rattle.std.specs.Global.{Global}
+use Rattle.std.specs.Box.Ownership.{box_owns}
 use Rattle.moka_c.specs.Held.{box_held}
 use Rattle.moka_c.specs.contracts.parts.Parts as Parts
 use Rattle.std.specs.contracts.alloc.Global as Heap
@@ -163,6 +164,8 @@ pub record Holding : Type 2 where
   pub has : (p : Ptr) (a : Global) (o : Option row.Denot) → held (make p a o) ≡ o
   pub owns : (x : Held.Denot) (vs : List Val) → Held.own_val x vs ≡ fsep (pair_owns (at x) (alloc x) vs) (box_held row (alloc x) (at x) (held x))
   pub owned : (p : Ptr) (a : Global) (o : Option row.Denot) (vs : List Val) → fsep (pair_owns p a vs) (box_held row a p o) ≡ Held.own_val (make p a o) vs
+  -- the box owns it as that of a type parameter
+  pub boxed : (a : Global) (p : Ptr) (x : row.Denot) → box_owns (ghosts.dealloc_token a) row p x ≡ box_owns (ghosts.dealloc_token a) (param 0 row) p x
   pub last : (x : Held.Denot) → Last (Held.exit yes) x
   pub silent : (x : Held.Denot) (f : Last (Held.exit yes) x) → left (Held.exit yes) x f ≡ ftrue
 
@@ -179,14 +182,19 @@ module _ (S : Holding) where
   abbrev filled : PartsOf.Denot → S.Held.Denot → Type 0
   filled p h = S.held h ≡ Some p.value
 
+  -- the parts own what the box owns
+  as_box : (p : Ptr) (a : Global) (x : (S.row).Denot) (vs : List Val)
+      → fsep (pair_owns p a vs) (box_owns (ghosts.dealloc_token a) S.row p x) ≡ (B box_of).own_val (record { ptr = p; alloc = a; value = x }) vs
+  as_box p a x vs = ap (λ (F : Fml). fsep (pair_owns p a vs) F) (S.boxed a p x)
+
   into : (h : S.Held.Denot) → IsSome (S.held h) → Hands box_of S.Held PartsOf (λ x p. filled p x) h
   into h some =
       let x = (the_value (S.held h) some).0 in let is = (the_value (S.held h) some).1 in
       record {
         box = record { ptr = S.at h; alloc = S.alloc h; value = x };
-        opens = λ vs. S.owns h vs ∙ ap (λ (o : Option (S.row).Denot). fsep (pair_owns (S.at h) (S.alloc h) vs) (box_held S.row (S.alloc h) (S.at h) o)) is;
+        opens = λ vs. S.owns h vs ∙ ap (λ (o : Option (S.row).Denot). fsep (pair_owns (S.at h) (S.alloc h) vs) (box_held S.row (S.alloc h) (S.at h) o)) is ∙ as_box (S.at h) (S.alloc h) x vs;
         made = record { ptr = S.at h; alloc = S.alloc h; value = x };
-        closes = λ vs. refl;
+        closes = λ vs. sym (as_box (S.at h) (S.alloc h) x vs);
         holds = is;
         last = S.last h;
       }
@@ -225,27 +233,27 @@ module _ (S : Holding) where
     gives_empty κs a = record { ghost = Unit {0}; requires = λ _. emp 𝓤; ensures = λ _ r _. fact 𝓤 (S.held r ≡ None) }
 
     module _ (𝓜 : Model 𝓤 𝓛.H) (𝓡 : Running 𝓤 𝓛.H 𝓜) where
-      abbrev 𝓣 : MachineTables 𝓤 𝓛.H 𝓜
-      𝓣 = tables 𝓤 𝓛.H 𝓜 𝓡 𝓡.env
+      abbrev 𝓢 : MachineTables 𝓤 𝓛.H 𝓜
+      𝓢 = tables 𝓤 𝓛.H 𝓜 𝓡 𝓡.env
 
-      pub of_parts_meets : (k : Callee) → Closed 𝓤 𝓛.H 𝓣.C 𝓣.Λ k (moving box_of parts_name S.name) → Meets 𝓛 (ended PartsOf S.Held).signature (𝓣.C k) (closing 𝓛 (ended PartsOf S.Held) (clauses PartsOf S.Held filled 𝓛 (λ p. emp 𝓤)))
+      pub of_parts_meets : (k : Callee) → Closed 𝓤 𝓛.H 𝓢.C 𝓢.Λ k (moving box_of parts_name S.name) → Meets 𝓛 (ended PartsOf S.Held).signature (𝓢.C k) (closing 𝓛 (ended PartsOf S.Held) (clauses PartsOf S.Held filled 𝓛 (λ p. emp 𝓤)))
       of_parts_meets = handed box_of parts_name S.name PartsOf S.Held filled 𝓛 𝓜 𝓡 (λ x f. refl) (λ p. record {
         box = record { ptr = p.ptr; alloc = p.alloc; value = p.value };
-        opens = λ vs. refl;
+        opens = as_box p.ptr p.alloc p.value;
         made = S.make p.ptr p.alloc (Some p.value);
-        closes = S.owned p.ptr p.alloc (Some p.value);
+        closes = λ vs. sym (as_box p.ptr p.alloc p.value vs) ∙ S.owned p.ptr p.alloc (Some p.value) vs;
         holds = S.has p.ptr p.alloc (Some p.value);
         last = tt;
       })
 
-      pub into_parts_meets : (k : Callee) → Closed 𝓤 𝓛.H 𝓣.C 𝓣.Λ k (moving box_of S.name parts_name) → Meets 𝓛 (ended S.Held PartsOf).signature (𝓣.C k)
+      pub into_parts_meets : (k : Callee) → Closed 𝓤 𝓛.H 𝓢.C 𝓢.Λ k (moving box_of S.name parts_name) → Meets 𝓛 (ended S.Held PartsOf).signature (𝓢.C k)
           (closing 𝓛 (ended S.Held PartsOf) (clauses S.Held PartsOf (λ h p. filled p h) 𝓛 (λ h. fact 𝓤 (IsSome (S.held h)))))
       into_parts_meets = handed_if box_of S.name parts_name S.Held PartsOf (λ h p. filled p h) 𝓛 𝓜 𝓡 S.silent (λ h. IsSome (S.held h)) into
 
-      pub empty_meets : (k : Callee) → Closed 𝓤 𝓛.H 𝓣.C 𝓣.Λ k making → Meets 𝓛 empties.signature (𝓣.C k) (closing 𝓛 empties (gives_empty 𝓛))
+      pub empty_meets : (k : Callee) → Closed 𝓤 𝓛.H 𝓢.C 𝓢.Λ k making → Meets 𝓛 empties.signature (𝓢.C k) (closing 𝓛 empties gives_empty)
       empty_meets k closed =
-          let W = walk_of 𝓛 empties left_nothing (gives_empty 𝓛) in
-          proved 𝓛 empties left_nothing (gives_empty 𝓛) 𝓜 𝓡 (Goes-dropped 𝓛 0 (plain (λ _. RawPtr)) yes (λ κs x w. refl), (Goes-dropped 𝓛 0 (plain (λ _. Heap.the_row)) yes (λ κs x w. refl), tt))
+          let W = walk_of 𝓛 empties left_nothing gives_empty in
+          proved 𝓛 empties left_nothing gives_empty 𝓜 𝓡 (Goes-dropped 𝓛 0 (plain (λ _. RawPtr)) yes (λ κs x w. refl), (Goes-dropped 𝓛 0 (plain (λ _. Heap.the_row)) yes (λ κs x w. refl), tt))
           k making closed (λ κs. (rawptr_vals, ((λ _. heap_val ∷ []), tt))) (λ κs. (rawptr_Tells, (heap_Tells, tt))) (λ κs qs bounds a _ are.
           let p : Ptr = a.0 in let h = a.1.0 in
           let w : Val = vstruct (vcons (ptr_val p) (vcons heap_val vnil)) in
@@ -257,5 +265,5 @@ module _ (S : Holding) where
           move ! (1 ∷ 2 ∷ []) $ fjoin ! $ move ! (1 ∷ 0 ∷ []) $ fjoin ! $ feq_i ! (List Val) (w ∷ []) (w ∷ []) refl $ fjoin ! $
           fpack ! (Valss (RawPtr ∷ Heap.the_row ∷ [])) (within pair (p, (h, tt)) (w ∷ [])) (ptr_val p ∷ [], (heap_val ∷ [], tt)) $
           nothing ! $ move ! (1 ∷ 0 ∷ []) $ fjoin ! $ rewrite ! 0 (λ (F : Fml). ‵ F) (S.owned p h None (w ∷ [])) refl $
-          suffices ! _ (ends_at 𝓛 empties left_nothing (gives_empty 𝓛) y w (S.make p h None) (tt, (tt, tt)) (tt, (tt, tt))) $ says ! (S.has p h None) $
+          suffices ! _ (ends_at 𝓛 empties left_nothing gives_empty y w (S.make p h None) (tt, (tt, tt)) (tt, (tt, tt))) $ says ! (S.has p h None) $
           nothing ! $ nothing ! $ fjoin ! $ nothing ! $ fjoin ! $ join ! $ nothing ! $ join ! $ done !))

@@ -18,6 +18,7 @@ holding = record {
   has = λ p a o. refl;
   owns = λ h vs. refl;
   owned = λ p a o vs. refl;
+  boxed = λ a p x. refl;
   last = λ h. tt;
   silent = λ h f. refl;
 }
