@@ -141,10 +141,12 @@ pub(crate) struct AnyCache<W: Wait + Drop> {
 }
 
 impl<W: Wait + Drop> AnyCache<W> {
+    /// Wraps a cache with one lock.
     pub(crate) fn one(cache: OneLock<W>) -> Self {
         AnyCache { any: Left(cache) }
     }
 
+    /// Wraps a cache of four segments.
     pub(crate) fn four(cache: FourLocks<W>) -> Self {
         AnyCache { any: Right(cache) }
     }
