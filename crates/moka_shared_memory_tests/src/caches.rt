@@ -4,6 +4,7 @@ ghost use Rattle.std.specs.Prelude.{◌≡◌, ◌%◌, nat_eq, refl};
 ghost use Rattle.moka_model.specs.Lives.{no_lifetimes};
 
 use crate::values::number_of;
+use either::{Either, Left, Right};
 use moka::common::builder_utils::BuildError;
 use moka::copies::CopiesCompose;
 use moka::notification::RemovalCause;
@@ -132,6 +133,24 @@ pub(crate) type OneLock<W> = Cache<u64, String, Types, W>;
 
 /// The same with four segments.
 pub(crate) type FourLocks<W> = SegmentedCache<u64, String, Types, W>;
+
+/// A shared cache of texts, with one lock or with four. `for_both!` makes a call that both have.
+#[derive(Drop)]
+pub(crate) struct AnyCache<W: Wait + Drop> {
+    pub any: Either<OneLock<W>, FourLocks<W>>,
+}
+
+impl<W: Wait + Drop> AnyCache<W> {
+    /// Wraps a cache with one lock.
+    pub(crate) fn one(cache: OneLock<W>) -> Self {
+        AnyCache { any: Left(cache) }
+    }
+
+    /// Wraps a cache of four segments.
+    pub(crate) fn four(cache: FourLocks<W>) -> Self {
+        AnyCache { any: Right(cache) }
+    }
+}
 
 /// The types of the owned caches.
 pub(crate) type OwnedTypes = SmallTypes<Hasher, NoListener>;

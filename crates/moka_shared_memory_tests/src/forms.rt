@@ -1,11 +1,12 @@
 //! The loaders and computes of a shared cache.
 
-use crate::caches::{FourLocks, OneLock};
+use crate::caches::AnyCache;
 use crate::calls::{Doing, ERROR, Form};
 use crate::values::{
     Returned, computed_of, entry_of, number_of, option_of, optional_entry_of, tried_compute_of,
     tried_entry_of, tried_of, value_of,
 };
+use either::for_both;
 use moka::common::entry::Entry;
 use moka::ops::compute::{CompResult, Op};
 use moka::policy::Refused;
@@ -110,9 +111,9 @@ pub(crate) trait Loads {
     ) -> Tries<Computed, u64>;
 }
 
-impl<W: Wait + Drop> Loads for OneLock<W> {
+impl<W: Wait + Drop> Loads for AnyCache<W> {
     fn load(&self, key: u64, value: String, seen: &Seen) -> Result<String, Refused> {
-        self.get_with(key, move || seen.give(value))
+        for_both!(&self.any, cache => cache.get_with(key, move || seen.give(value)))
     }
 
     fn load_if(
@@ -122,7 +123,11 @@ impl<W: Wait + Drop> Loads for OneLock<W> {
         replace: bool,
         seen: &Seen,
     ) -> Result<String, Refused> {
-        self.get_with_if(key, move || seen.give(value), move |_| replace)
+        for_both!(&self.any, cache => cache.get_with_if(
+            key,
+            move || seen.give(value),
+            move |_| replace
+        ))
     }
 
     fn may_load(
@@ -131,7 +136,7 @@ impl<W: Wait + Drop> Loads for OneLock<W> {
         value: Option<String>,
         seen: &Seen,
     ) -> Result<Option<String>, Refused> {
-        self.optionally_get_with(key, move || seen.give(value))
+        for_both!(&self.any, cache => cache.optionally_get_with(key, move || seen.give(value)))
     }
 
     fn try_load(
@@ -140,25 +145,27 @@ impl<W: Wait + Drop> Loads for OneLock<W> {
         value: Result<String, u64>,
         seen: &Seen,
     ) -> Tries<String, Arc<u64>> {
-        self.try_get_with(key, move || seen.give(value))
+        for_both!(&self.any, cache => cache.try_get_with(key, move || seen.give(value)))
     }
 
     fn enter(&self, key: u64, value: String) -> Entries {
-        self.entry(key).or_insert(value)
+        for_both!(&self.any, cache => cache.entry(key).or_insert(value))
     }
 
     fn enter_with(&self, key: u64, value: String, seen: &Seen) -> Entries {
-        self.entry(key).or_insert_with(move || seen.give(value))
+        for_both!(&self.any, cache => cache.entry(key).or_insert_with(move || seen.give(value)))
     }
 
     fn enter_if(&self, key: u64, value: String, replace: bool, seen: &Seen) -> Entries {
-        self.entry(key)
-            .or_insert_with_if(move || seen.give(value), move |_| replace)
+        for_both!(&self.any, cache => cache
+            .entry(key)
+            .or_insert_with_if(move || seen.give(value), move |_| replace))
     }
 
     fn may_enter(&self, key: u64, value: Option<String>, seen: &Seen) -> OptionalEntries {
-        self.entry(key)
-            .or_optionally_insert_with(move || seen.give(value))
+        for_both!(&self.any, cache => cache
+            .entry(key)
+            .or_optionally_insert_with(move || seen.give(value)))
     }
 
     fn try_enter(
@@ -167,17 +174,19 @@ impl<W: Wait + Drop> Loads for OneLock<W> {
         value: Result<String, u64>,
         seen: &Seen,
     ) -> Tries<Entry<u64, String>, Arc<u64>> {
-        self.entry(key).or_try_insert_with(move || seen.give(value))
+        for_both!(&self.any, cache => cache.entry(key).or_try_insert_with(move || seen.give(value)))
     }
 
     fn upsert(&self, key: u64, value: String, seen: &Seen) -> Entries {
-        self.entry(key)
-            .and_upsert_with(move |shown| seen.decide(shown, value))
+        for_both!(&self.any, cache => cache
+            .entry(key)
+            .and_upsert_with(move |shown| seen.decide(shown, value)))
     }
 
     fn compute(&self, key: u64, op: Op<String>, seen: &Seen) -> Result<Computed, Refused> {
-        self.entry(key)
-            .and_compute_with(move |shown| seen.decide(shown, op))
+        for_both!(&self.any, cache => cache
+            .entry(key)
+            .and_compute_with(move |shown| seen.decide(shown, op)))
     }
 
     fn try_compute(
@@ -186,89 +195,9 @@ impl<W: Wait + Drop> Loads for OneLock<W> {
         op: Result<Op<String>, u64>,
         seen: &Seen,
     ) -> Tries<Computed, u64> {
-        self.entry(key)
-            .and_try_compute_with(move |shown| seen.decide(shown, op))
-    }
-}
-
-impl<W: Wait + Drop> Loads for FourLocks<W> {
-    fn load(&self, key: u64, value: String, seen: &Seen) -> Result<String, Refused> {
-        self.get_with(key, move || seen.give(value))
-    }
-
-    fn load_if(
-        &self,
-        key: u64,
-        value: String,
-        replace: bool,
-        seen: &Seen,
-    ) -> Result<String, Refused> {
-        self.get_with_if(key, move || seen.give(value), move |_| replace)
-    }
-
-    fn may_load(
-        &self,
-        key: u64,
-        value: Option<String>,
-        seen: &Seen,
-    ) -> Result<Option<String>, Refused> {
-        self.optionally_get_with(key, move || seen.give(value))
-    }
-
-    fn try_load(
-        &self,
-        key: u64,
-        value: Result<String, u64>,
-        seen: &Seen,
-    ) -> Tries<String, Arc<u64>> {
-        self.try_get_with(key, move || seen.give(value))
-    }
-
-    fn enter(&self, key: u64, value: String) -> Entries {
-        self.entry(key).or_insert(value)
-    }
-
-    fn enter_with(&self, key: u64, value: String, seen: &Seen) -> Entries {
-        self.entry(key).or_insert_with(move || seen.give(value))
-    }
-
-    fn enter_if(&self, key: u64, value: String, replace: bool, seen: &Seen) -> Entries {
-        self.entry(key)
-            .or_insert_with_if(move || seen.give(value), move |_| replace)
-    }
-
-    fn may_enter(&self, key: u64, value: Option<String>, seen: &Seen) -> OptionalEntries {
-        self.entry(key)
-            .or_optionally_insert_with(move || seen.give(value))
-    }
-
-    fn try_enter(
-        &self,
-        key: u64,
-        value: Result<String, u64>,
-        seen: &Seen,
-    ) -> Tries<Entry<u64, String>, Arc<u64>> {
-        self.entry(key).or_try_insert_with(move || seen.give(value))
-    }
-
-    fn upsert(&self, key: u64, value: String, seen: &Seen) -> Entries {
-        self.entry(key)
-            .and_upsert_with(move |shown| seen.decide(shown, value))
-    }
-
-    fn compute(&self, key: u64, op: Op<String>, seen: &Seen) -> Result<Computed, Refused> {
-        self.entry(key)
-            .and_compute_with(move |shown| seen.decide(shown, op))
-    }
-
-    fn try_compute(
-        &self,
-        key: u64,
-        op: Result<Op<String>, u64>,
-        seen: &Seen,
-    ) -> Tries<Computed, u64> {
-        self.entry(key)
-            .and_try_compute_with(move |shown| seen.decide(shown, op))
+        for_both!(&self.any, cache => cache
+            .entry(key)
+            .and_try_compute_with(move |shown| seen.decide(shown, op)))
     }
 }
 

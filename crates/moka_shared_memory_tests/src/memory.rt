@@ -3,7 +3,7 @@
 ghost use Rattle.std.specs.Prelude.{◌≡◌, ◌≢◌};
 ghost use Rattle.moka_model.specs.declared.turns.Kind.{Kind};
 
-use crate::caches::{Heard, four_locks, heard_after, new_heard, one_lock};
+use crate::caches::{AnyCache, Heard, four_locks, heard_after, new_heard, one_lock};
 use crate::flights::consume_begun;
 use crate::shared::Shared;
 use crate::twin::LAST;
@@ -101,7 +101,7 @@ fn has_heard_all(rt: &impl Abort, heard: &Heard) {
 #[test]
 fn takes_no_memory_but_for_writes_and_clones(rt: HostRuntime) -> Result<(), Fail> {
     let heard = new_heard(rt.alloc())?;
-    let shared = one_lock(rt, rt.alloc(), &heard, 2, EvictionPolicy::lru())?;
+    let shared = AnyCache::one(one_lock(rt, rt.alloc(), &heard, 2, EvictionPolicy::lru())?);
     takes_none(&rt, rt.alloc(), &shared, &heard)
 }
 
@@ -109,7 +109,7 @@ fn takes_no_memory_but_for_writes_and_clones(rt: HostRuntime) -> Result<(), Fail
 #[test]
 fn takes_no_memory_in_segments_but_for_writes_and_clones(rt: HostRuntime) -> Result<(), Fail> {
     let heard = new_heard(rt.alloc())?;
-    let shared = four_locks(rt, rt.alloc(), &heard, 8, EvictionPolicy::lru())?;
+    let shared = AnyCache::four(four_locks(rt, rt.alloc(), &heard, 8, EvictionPolicy::lru())?);
     takes_none(&rt, rt.alloc(), &shared, &heard)
 }
 
@@ -151,7 +151,7 @@ fn ends_take_none<S: Shared>(rt: &impl Abort, alloc: Global, shared: &S) -> Resu
 #[test]
 fn takes_no_memory_to_abandon_or_leave(rt: HostRuntime) -> Result<(), Fail> {
     let heard = new_heard(rt.alloc())?;
-    let shared = one_lock(rt, rt.alloc(), &heard, 2, EvictionPolicy::lru())?;
+    let shared = AnyCache::one(one_lock(rt, rt.alloc(), &heard, 2, EvictionPolicy::lru())?);
     ends_take_none(&rt, rt.alloc(), &shared)
 }
 
@@ -159,7 +159,7 @@ fn takes_no_memory_to_abandon_or_leave(rt: HostRuntime) -> Result<(), Fail> {
 #[test]
 fn takes_no_memory_to_abandon_or_leave_in_segments(rt: HostRuntime) -> Result<(), Fail> {
     let heard = new_heard(rt.alloc())?;
-    let shared = four_locks(rt, rt.alloc(), &heard, 8, EvictionPolicy::lru())?;
+    let shared = AnyCache::four(four_locks(rt, rt.alloc(), &heard, 8, EvictionPolicy::lru())?);
     ends_take_none(&rt, rt.alloc(), &shared)
 }
 
@@ -185,7 +185,7 @@ fn write_takes_none<S: Shared>(
 #[test]
 fn takes_no_memory_to_write_at_a_capacity_of_0(rt: HostRuntime) -> Result<(), Fail> {
     let heard = new_heard(rt.alloc())?;
-    let shared = one_lock(rt, rt.alloc(), &heard, 0, EvictionPolicy::lru())?;
+    let shared = AnyCache::one(one_lock(rt, rt.alloc(), &heard, 0, EvictionPolicy::lru())?);
     write_takes_none(&rt, rt.alloc(), &shared, &heard)
 }
 
@@ -193,6 +193,6 @@ fn takes_no_memory_to_write_at_a_capacity_of_0(rt: HostRuntime) -> Result<(), Fa
 #[test]
 fn takes_no_memory_to_write_to_segments_of_capacity_0(rt: HostRuntime) -> Result<(), Fail> {
     let heard = new_heard(rt.alloc())?;
-    let shared = four_locks(rt, rt.alloc(), &heard, 0, EvictionPolicy::lru())?;
+    let shared = AnyCache::four(four_locks(rt, rt.alloc(), &heard, 0, EvictionPolicy::lru())?);
     write_takes_none(&rt, rt.alloc(), &shared, &heard)
 }

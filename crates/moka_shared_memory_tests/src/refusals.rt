@@ -1,7 +1,7 @@
 //! A shared call for which an allocation or a clone fails changes nothing: the cache goes on as its
 //! twin. Each test passes if any one allocation fails.
 
-use crate::caches::{four_locks, new_heard, one_lock, owned, owned_segments};
+use crate::caches::{AnyCache, four_locks, new_heard, one_lock, owned, owned_segments};
 use crate::calls::Call;
 use crate::lists::{ABSENT, COMPUTES, ENTRIES, LIVE, TURNS};
 use crate::side_by_side::{Pair, run_alike};
@@ -42,7 +42,7 @@ fn compare_by<W: Wait + Abort + Copy + Drop>(
 ) -> Result<(), Fail> {
     let mut pair = new_pair(alloc)?;
     let mut twin = owned(alloc, CAPACITY, policy)?;
-    let shared = one_lock(rt, alloc, &pair.heard, CAPACITY, policy)?;
+    let shared = AnyCache::one(one_lock(rt, alloc, &pair.heard, CAPACITY, policy)?);
     run_alike(&rt, &mut pair, &shared, &mut twin, calls)
 }
 
@@ -64,7 +64,7 @@ fn compare_segments_by<W: Wait + Abort + Copy + Drop>(
 ) -> Result<(), Fail> {
     let mut pair = new_pair(alloc)?;
     let mut twin = owned_segments(alloc, 4 * CAPACITY, policy)?;
-    let shared = four_locks(rt, alloc, &pair.heard, 4 * CAPACITY, policy)?;
+    let shared = AnyCache::four(four_locks(rt, alloc, &pair.heard, 4 * CAPACITY, policy)?);
     run_alike(&rt, &mut pair, &shared, &mut twin, calls)
 }
 

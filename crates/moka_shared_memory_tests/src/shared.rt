@@ -1,8 +1,9 @@
 //! The calls of a shared cache that take no closure.
 ghost use Rattle.std.specs.Prelude.{◌≡◌, ◌≢◌, ℕ, IfOk};
 
-use crate::caches::{FourLocks, OneLock};
+use crate::caches::AnyCache;
 use crate::walks::{Walked, tally};
+use either::for_both;
 use moka::common::entry::Entry;
 use moka::policy::Refused;
 use moka::state::{InsertRefused, OrInsertRefused};
@@ -82,7 +83,7 @@ pub(crate) trait Shared {
     fn drop_out(&self, ticket: Ticket<u64>) -> Result<(), Refused>;
 }
 
-impl<W: Wait + Drop> Shared for OneLock<W> {
+impl<W: Wait + Drop> Shared for AnyCache<W> {
     ghost use Rattle.std.specs.Prelude.{◌≡◌, ◌≢◌, ℕ, IfOk};
     ghost use Rattle.std.specs.Arc.{arc_value};
     ghost use Rattle.moka_model.specs.declared.turns.Kind.{Kind};
@@ -91,169 +92,81 @@ impl<W: Wait + Drop> Shared for OneLock<W> {
     ghost use Rattle.moka_state.specs.Finish.{Fits, outcome_of};
 
     fn look_up(&self, key: u64) -> Found {
-        self.get(&key)
+        for_both!(&self.any, cache => cache.get(&key))
     }
 
     fn has(&self, key: u64) -> bool {
-        self.contains_key(&key)
+        for_both!(&self.any, cache => cache.contains_key(&key))
     }
 
     fn write(&self, key: u64, value: String) -> Inserts {
-        self.insert(key, value)
+        for_both!(&self.any, cache => cache.insert(key, value))
     }
 
     fn write_if_absent(&self, key: &Arc<u64>, value: String) -> OrInserts {
-        self.or_insert(key, value)
+        for_both!(&self.any, cache => cache.or_insert(key, value))
     }
 
     fn erase(&self, key: u64) {
-        self.invalidate(&key);
+        for_both!(&self.any, cache => cache.invalidate(&key));
     }
 
     fn take(&self, key: u64) -> Found {
-        self.remove(&key)
+        for_both!(&self.any, cache => cache.remove(&key))
     }
 
     fn erase_all(&self) {
-        self.invalidate_all();
+        for_both!(&self.any, cache => cache.invalidate_all());
     }
 
     fn maintain(&self) {
-        self.run_pending_tasks();
+        for_both!(&self.any, cache => cache.run_pending_tasks());
     }
 
     fn maintain_up_to(&self, limit: u64) -> bool {
-        self.run_pending_tasks_up_to(limit)
+        for_both!(&self.any, cache => cache.run_pending_tasks_up_to(limit))
     }
 
     fn count(&self) -> u64 {
-        self.entry_count()
+        for_both!(&self.any, cache => cache.entry_count())
     }
 
     fn weight(&self) -> u64 {
-        self.weighted_size()
+        for_both!(&self.any, cache => cache.weighted_size())
     }
 
     fn walk(&self) -> Walked {
-        tally(self.iter())
+        for_both!(&self.any, cache => tally(cache.iter()))
     }
 
     fn begin_turn(&self, key: &Arc<u64>, kind: Kind, replace: bool) -> Begins
         requires { kind ≢ Kind.Compute }
         ensures { IfOk result (IsNamed kind (arc_value key.now)) }
     {
-        self.begin(key, kind, Some(move |_: &String| replace))
+        for_both!(&self.any, cache => cache.begin(key, kind, Some(move |_: &String| replace)))
     }
 
     fn begin_op(&self, key: &Arc<u64>) -> BeginsCompute
         ensures { IfOk result (IsCompute (arc_value key.now)) }
     {
-        self.begin_compute(key, true)
+        for_both!(&self.any, cache => cache.begin_compute(key, true))
     }
 
     fn end(&self, turn: Turn<u64>, outcome: Given) -> Finishes
         requires { Fits ℕ turn.key.kind (outcome_of outcome) }
     {
-        self.finish(turn, outcome)
+        for_both!(&self.any, cache => cache.finish(turn, outcome))
     }
 
     fn give_up(&self, turn: Turn<u64>) -> Result<(), Refused> {
-        self.abandon(turn)
+        for_both!(&self.any, cache => cache.abandon(turn))
     }
 
     fn redeem(&self, ticket: Ticket<u64>) -> Collects {
-        self.collect(ticket)
+        for_both!(&self.any, cache => cache.collect(ticket))
     }
 
     fn drop_out(&self, ticket: Ticket<u64>) -> Result<(), Refused> {
-        self.leave(ticket)
-    }
-}
-
-impl<W: Wait + Drop> Shared for FourLocks<W> {
-    ghost use Rattle.std.specs.Prelude.{◌≡◌, ◌≢◌, ℕ, IfOk};
-    ghost use Rattle.std.specs.Arc.{arc_value};
-    ghost use Rattle.moka_model.specs.declared.turns.Kind.{Kind};
-    ghost use Rattle.moka_state.specs.Begin.{IsNamed};
-    ghost use Rattle.moka_state.specs.Compute.{IsCompute};
-    ghost use Rattle.moka_state.specs.Finish.{Fits, outcome_of};
-
-    fn look_up(&self, key: u64) -> Found {
-        self.get(&key)
-    }
-
-    fn has(&self, key: u64) -> bool {
-        self.contains_key(&key)
-    }
-
-    fn write(&self, key: u64, value: String) -> Inserts {
-        self.insert(key, value)
-    }
-
-    fn write_if_absent(&self, key: &Arc<u64>, value: String) -> OrInserts {
-        self.or_insert(key, value)
-    }
-
-    fn erase(&self, key: u64) {
-        self.invalidate(&key);
-    }
-
-    fn take(&self, key: u64) -> Found {
-        self.remove(&key)
-    }
-
-    fn erase_all(&self) {
-        self.invalidate_all();
-    }
-
-    fn maintain(&self) {
-        self.run_pending_tasks();
-    }
-
-    fn maintain_up_to(&self, limit: u64) -> bool {
-        self.run_pending_tasks_up_to(limit)
-    }
-
-    fn count(&self) -> u64 {
-        self.entry_count()
-    }
-
-    fn weight(&self) -> u64 {
-        self.weighted_size()
-    }
-
-    fn walk(&self) -> Walked {
-        tally(self.iter())
-    }
-
-    fn begin_turn(&self, key: &Arc<u64>, kind: Kind, replace: bool) -> Begins
-        requires { kind ≢ Kind.Compute }
-        ensures { IfOk result (IsNamed kind (arc_value key.now)) }
-    {
-        self.begin(key, kind, Some(move |_: &String| replace))
-    }
-
-    fn begin_op(&self, key: &Arc<u64>) -> BeginsCompute
-        ensures { IfOk result (IsCompute (arc_value key.now)) }
-    {
-        self.begin_compute(key, true)
-    }
-
-    fn end(&self, turn: Turn<u64>, outcome: Given) -> Finishes
-        requires { Fits ℕ turn.key.kind (outcome_of outcome) }
-    {
-        self.finish(turn, outcome)
-    }
-
-    fn give_up(&self, turn: Turn<u64>) -> Result<(), Refused> {
-        self.abandon(turn)
-    }
-
-    fn redeem(&self, ticket: Ticket<u64>) -> Collects {
-        self.collect(ticket)
-    }
-
-    fn drop_out(&self, ticket: Ticket<u64>) -> Result<(), Refused> {
-        self.leave(ticket)
+        for_both!(&self.any, cache => cache.leave(ticket))
     }
 }

@@ -1,10 +1,11 @@
 //! A loader or a compute whose end fails while another caller waits for its turn. The other one is
 //! woken and gets a turn of its own.
 
-use crate::caches::{FourLocks, OneLock, four_locks, new_heard, one_lock};
+use crate::caches::{AnyCache, four_locks, new_heard, one_lock};
 use crate::shared::Shared;
 use crate::twin::LAST;
 use crate::values::{NO_MEMORY, Returned, number_of, text, value_of};
+use either::{Left, Right, for_both};
 use moka::common::entry::Entry;
 use moka::policy::{EvictionPolicy, Refused};
 use moka_test_support::marks::{Marks, count_so_far, mark, new_marks, pause, reaches};
@@ -77,55 +78,33 @@ fn value_in(entry: Result<Entry<u64, String>, Refused>) -> Result<String, Refuse
     Ok(entry?.into_value())
 }
 
-impl<W: Wait + Clock + Drop> Meets<W> for OneLock<W> {
+impl<W: Wait + Clock + Drop> Meets<W> for AnyCache<W> {
     fn share(&self) -> Result<Self, AllocError> {
-        self.clone()
+        Ok(match &self.any {
+            Left(cache) => AnyCache::one(cache.clone()?),
+            Right(cache) => AnyCache::four(cache.clone()?),
+        })
     }
 
     fn load_first(&self, rt: &W, marks: &Marks, value: String) -> Result<String, Refused> {
         let init = || once_it_waits(rt, marks, Form::Loader, value);
-        self.get_with_if(KEY, init, |_| true)
+        for_both!(&self.any, cache => cache.get_with_if(KEY, init, |_| true))
     }
 
     fn load_second(&self, marks: &Marks, value: String) -> Result<String, Refused> {
-        self.get_with_if(KEY, || asked(marks, value), |_| turns_it_down(marks))
+        let init = || asked(marks, value);
+        for_both!(&self.any, cache => cache.get_with_if(KEY, init, |_| turns_it_down(marks)))
     }
 
     fn upsert_first(&self, rt: &W, marks: &Marks, value: String) -> Result<String, Refused> {
-        let entry = self.entry(KEY);
-        value_in(entry.and_upsert_with(|_| once_it_waits(rt, marks, Form::Upsert, value)))
+        let change = |_| once_it_waits(rt, marks, Form::Upsert, value);
+        value_in(for_both!(&self.any, cache => cache.entry(KEY).and_upsert_with(change)))
     }
 
     fn upsert_second(&self, marks: &Marks, value: String) -> Result<String, Refused> {
         mark(&marks.arrived);
-        let entry = self.entry(KEY);
-        value_in(entry.and_upsert_with(|_| asked(marks, value)))
-    }
-}
-
-impl<W: Wait + Clock + Drop> Meets<W> for FourLocks<W> {
-    fn share(&self) -> Result<Self, AllocError> {
-        self.clone()
-    }
-
-    fn load_first(&self, rt: &W, marks: &Marks, value: String) -> Result<String, Refused> {
-        let init = || once_it_waits(rt, marks, Form::Loader, value);
-        self.get_with_if(KEY, init, |_| true)
-    }
-
-    fn load_second(&self, marks: &Marks, value: String) -> Result<String, Refused> {
-        self.get_with_if(KEY, || asked(marks, value), |_| turns_it_down(marks))
-    }
-
-    fn upsert_first(&self, rt: &W, marks: &Marks, value: String) -> Result<String, Refused> {
-        let entry = self.entry(KEY);
-        value_in(entry.and_upsert_with(|_| once_it_waits(rt, marks, Form::Upsert, value)))
-    }
-
-    fn upsert_second(&self, marks: &Marks, value: String) -> Result<String, Refused> {
-        mark(&marks.arrived);
-        let entry = self.entry(KEY);
-        value_in(entry.and_upsert_with(|_| asked(marks, value)))
+        let change = |_| asked(marks, value);
+        value_in(for_both!(&self.any, cache => cache.entry(KEY).and_upsert_with(change)))
     }
 }
 
@@ -285,7 +264,7 @@ where
     W: Wait + Clock + Threads + Abort + Copy + Drop + Send + Sync + 'static,
 {
     let heard = new_heard(alloc)?;
-    let cache = one_lock(rt, alloc, &heard, 2, EvictionPolicy::lru())?;
+    let cache = AnyCache::one(one_lock(rt, alloc, &heard, 2, EvictionPolicy::lru())?);
     meet(&rt, alloc, &cache, form)
 }
 
@@ -294,7 +273,7 @@ where
     W: Wait + Clock + Threads + Abort + Copy + Drop + Send + Sync + 'static,
 {
     let heard = new_heard(alloc)?;
-    let cache = four_locks(rt, alloc, &heard, 8, EvictionPolicy::lru())?;
+    let cache = AnyCache::four(four_locks(rt, alloc, &heard, 8, EvictionPolicy::lru())?);
     meet(&rt, alloc, &cache, form)
 }
 

@@ -1,7 +1,7 @@
 //! Iterations over a shared cache. One that fails to clone a value, or to list the keys of a
 //! segment, yields one error and goes on.
 
-use crate::caches::{OneLock, SEGMENTS, four_locks, new_heard, one_lock};
+use crate::caches::{AnyCache, OneLock, SEGMENTS, four_locks, new_heard, one_lock};
 use crate::shared::Shared;
 use crate::values::{number_of, text};
 use moka::policy::{EvictionPolicy, Refused};
@@ -111,7 +111,7 @@ fn lacks_one_or_a_list(walked: Walked, lists: &[u64]) -> bool {
 #[test]
 fn an_iteration_goes_on_behind_a_refused_clone(rt: HostRuntime) -> Result<(), Fail> {
     let heard = new_heard(rt.alloc())?;
-    let shared = one_lock(rt, rt.alloc(), &heard, 100, EvictionPolicy::lru())?;
+    let shared = AnyCache::one(one_lock(rt, rt.alloc(), &heard, 100, EvictionPolicy::lru())?);
     goes_on(&rt, rt.alloc(), &shared, &[OF_ALL])
 }
 
@@ -119,7 +119,7 @@ fn an_iteration_goes_on_behind_a_refused_clone(rt: HostRuntime) -> Result<(), Fa
 #[test]
 fn an_iteration_goes_on_behind_a_refused_segment(rt: HostRuntime) -> Result<(), Fail> {
     let heard = new_heard(rt.alloc())?;
-    let shared = four_locks(rt, rt.alloc(), &heard, 100, EvictionPolicy::lru())?;
+    let shared = AnyCache::four(four_locks(rt, rt.alloc(), &heard, 100, EvictionPolicy::lru())?);
     let lists = [
         OF_SEGMENT,
         OF_SEGMENT << 3,

@@ -3,6 +3,7 @@
 
 use crate::caches::{FOURTH, Found, Numbers, SECOND, THIRD, cache, get, gets_beside, insert};
 use moka::ops::compute::Op;
+use moka_test_support::call_as;
 use moka_test_support::marks::{Marks, inside_until_done, new_marks};
 use std::alloc::Global;
 use std::process::Abort;
@@ -42,43 +43,13 @@ fn make_call<W: Wait + Clock + Drop>(
     form: Form,
 ) -> bool {
     match form {
-        Form::With => gives(rt, cache, marks),
-        Form::Optionally => may_give(rt, cache, marks),
-        Form::Try => tries_to_give(rt, cache, marks),
-        Form::Compute => computes(rt, cache, marks),
-        Form::Upsert => upserts(rt, cache, marks),
+        Form::With => call_as!(cache, With, inside_until_done(rt, marks)),
+        Form::Optionally => call_as!(cache, Optionally, inside_until_done(rt, marks)),
+        Form::Try => call_as!(cache, Try, inside_until_done(rt, marks)),
+        Form::Compute => call_as!(cache, Compute, inside_until_done(rt, marks)),
+        Form::Upsert => call_as!(cache, Upsert, inside_until_done(rt, marks)),
         Form::ReplaceIf => replaces(rt, cache, marks),
     }
-}
-
-fn gives<W: Wait + Clock + Drop>(rt: &W, cache: &Numbers<W>, marks: &Marks) -> bool {
-    cache.get_with(1, || inside_until_done(rt, marks)).is_ok()
-}
-
-fn may_give<W: Wait + Clock + Drop>(rt: &W, cache: &Numbers<W>, marks: &Marks) -> bool {
-    cache
-        .optionally_get_with(1, || Some(inside_until_done(rt, marks)))
-        .is_ok()
-}
-
-fn tries_to_give<W: Wait + Clock + Drop>(rt: &W, cache: &Numbers<W>, marks: &Marks) -> bool {
-    cache
-        .try_get_with(1, || Ok(inside_until_done(rt, marks)))
-        .is_ok()
-}
-
-fn upserts<W: Wait + Clock + Drop>(rt: &W, cache: &Numbers<W>, marks: &Marks) -> bool {
-    cache
-        .entry(1)
-        .and_upsert_with(|_| inside_until_done(rt, marks))
-        .is_ok()
-}
-
-fn computes<W: Wait + Clock + Drop>(rt: &W, cache: &Numbers<W>, marks: &Marks) -> bool {
-    cache
-        .entry(1)
-        .and_compute_with(|_| Op::Put(inside_until_done(rt, marks)))
-        .is_ok()
 }
 
 /// Replaces the live value by 1 if the other thread is done in time.
