@@ -1,7 +1,6 @@
 //! What loaders and begins of owned caches ask for.
 
-use crate::on_owned::{InLists, InSegments, InSlab};
-use crate::subject::{Failure, asks_each, fails_each};
+use crate::tables::{Failure, Tested, asks_each, fails_each};
 use moka_model::turns::Kind;
 use moka_test_support::counted_calls::{Any, Before, Form, Row};
 use moka_test_support::counted_lookups::{ACCESS, FOUND};
@@ -82,19 +81,19 @@ const FORMS: [Row; 13] = [
 /// A loader calls its closure once on a miss, and never on a hit.
 #[test]
 fn a_loader_asks_once(rt: HostRuntime) -> Result<(), Fail> {
-    asks_each::<InSlab>(&rt, rt.alloc(), &FORMS, NONE)
+    asks_each(&rt, rt.alloc(), Tested::InSlab, &FORMS, NONE)
 }
 
 /// So does a loader over lists.
 #[test]
 fn a_loader_over_lists_asks_once(rt: HostRuntime) -> Result<(), Fail> {
-    asks_each::<InLists>(&rt, rt.alloc(), &FORMS, NONE)
+    asks_each(&rt, rt.alloc(), Tested::InLists, &FORMS, NONE)
 }
 
 /// So does a loader of a cache with segments, which hashes once more to choose one.
 #[test]
 fn a_loader_of_a_segment_asks_once(rt: HostRuntime) -> Result<(), Fail> {
-    asks_each::<InSegments>(&rt, rt.alloc(), &FORMS, HASHED)
+    asks_each(&rt, rt.alloc(), Tested::InSegments, &FORMS, HASHED)
 }
 
 /// The calls that fail once no sequence number is left.
@@ -130,8 +129,8 @@ const USED_UP: [Failure; 10] = [
 /// A refused loader calls neither its closure nor a policy.
 #[test]
 fn a_refused_loader_asks_no_closure(rt: HostRuntime) -> Result<(), Fail> {
-    fails_each::<InSlab>(&rt, rt.alloc(), &USED_UP, NONE)?;
-    fails_each::<InSegments>(&rt, rt.alloc(), &USED_UP, HASHED)
+    fails_each(&rt, rt.alloc(), Tested::InSlab, &USED_UP, NONE)?;
+    fails_each(&rt, rt.alloc(), Tested::InSegments, &USED_UP, HASHED)
 }
 
 /// The loaders, each beside an open turn of its kind. Each compares its key with that of the turn,
@@ -177,6 +176,6 @@ const BESIDE: [Failure; 7] = [
 /// A loader that fails since a turn of its kind is open does not call its closure.
 #[test]
 fn a_loader_beside_a_turn_asks_no_closure(rt: HostRuntime) -> Result<(), Fail> {
-    fails_each::<InSlab>(&rt, rt.alloc(), &BESIDE, NONE)?;
-    fails_each::<InSegments>(&rt, rt.alloc(), &BESIDE, HASHED)
+    fails_each(&rt, rt.alloc(), Tested::InSlab, &BESIDE, NONE)?;
+    fails_each(&rt, rt.alloc(), Tested::InSegments, &BESIDE, HASHED)
 }

@@ -19,10 +19,14 @@ mod many_turns;
 #[cfg(test)]
 mod on_owned;
 #[cfg(test)]
+mod parts;
+#[cfg(test)]
 mod selectors;
 #[cfg(test)]
 mod step_text;
 #[cfg(test)]
 mod subject;
+#[cfg(test)]
+mod tables;
 #[cfg(test)]
 mod types;

@@ -1,18 +1,17 @@
 //! Many turns: one after the other, of many keys at once, and with many callers that wait.
 ghost use Rattle.moka_state.specs.Step.{StepKeeps};
 
+use crate::parts::Parts;
 use crate::types::{Types, settings};
 use moka_model::turns::{Kind, Outcome};
 use moka_policy::policy::{CacheTypes, Predicate};
 use moka_state::state::{CacheState, State};
 use moka_state::step::{Reply, Step};
-use moka_state::turn_name::TurnName;
 use moka_test_support::counted::{Every, Key, Value};
 use moka_test_support::counted_calls::Rules;
-use moka_test_support::counts::Watch;
+use moka_test_support::counts::{CREATED, Counts, NONE, VALUE_CLONED, WEIGHED, Watch};
 use std::alloc::{AllocError, Global};
 use std::process::Abort;
-use std::sync::Arc;
 use std::test::Fail;
 
 type Counted = CacheState<Key, Value, Types>;
@@ -31,8 +30,7 @@ const RULES: Rules = Rules {
 struct Turns {
     cache: Counted,
     kind: Kind,
-    watch: Arc<Watch>,
-    alloc: Global,
+    parts: Parts,
 }
 
 /// What a step returned.
@@ -62,31 +60,14 @@ fn returned_of(reply: &CountedReply) -> Returned {
 
 impl Turns {
     fn new(alloc: Global, kind: Kind) -> Result<Turns, Fail> {
-        let watch = Arc::new(alloc, Watch::new())?;
-        let cache: Counted = State::new(alloc, settings(alloc, RULES, &watch)?)?;
-        Ok(Turns {
-            cache,
-            kind,
-            watch,
-            alloc,
-        })
-    }
-
-    fn key(&self, number: u64) -> Result<Arc<Key>, AllocError> {
-        Ok(Arc::new(self.alloc, Key::new(number, &self.watch)?)?)
-    }
-
-    fn name(&self, key: u64, number: u64) -> Result<TurnName<Key>, AllocError> {
-        Ok(TurnName {
-            number,
-            kind: self.kind,
-            key: self.key(key)?,
-        })
+        let parts = Parts::new(alloc)?;
+        let cache: Counted = State::new(alloc, settings(alloc, RULES, &parts.watch)?)?;
+        Ok(Turns { cache, kind, parts })
     }
 
     /// Begins a turn, which replaces a live value.
     fn begin(&mut self, key: u64) -> Result<Returned, AllocError> {
-        let key = self.key(key)?;
+        let key = self.parts.key(key)?;
         Ok(self.step(Step::Begin {
             key,
             kind: self.kind,
@@ -96,8 +77,8 @@ impl Turns {
     }
 
     fn finish(&mut self, key: u64, number: u64, value: u64) -> Result<Returned, AllocError> {
-        let name = self.name(key, number)?;
-        let value = Value::new(value, &self.watch)?;
+        let name = self.parts.name(self.kind, key, number)?;
+        let value = self.parts.value(value)?;
         Ok(self.step(Step::Finish {
             name,
             outcome: Outcome::Value(value),
@@ -115,8 +96,8 @@ impl Turns {
     }
 
     fn fail(&mut self, key: u64, number: u64, error: u64) -> Result<Returned, AllocError> {
-        let name = self.name(key, number)?;
-        let error = Arc::new(self.alloc, error)?;
+        let name = self.parts.name(self.kind, key, number)?;
+        let error = self.parts.error(error)?;
         Ok(self.step(Step::Finish {
             name,
             outcome: Outcome::Failed(error),
@@ -125,12 +106,12 @@ impl Turns {
     }
 
     fn collect(&mut self, key: u64, number: u64) -> Result<Returned, AllocError> {
-        let name = self.name(key, number)?;
+        let name = self.parts.name(self.kind, key, number)?;
         Ok(self.step(Step::Collect { name }))
     }
 
     fn get(&mut self, key: u64) -> Result<Returned, AllocError> {
-        let key = self.key(key)?;
+        let key = self.parts.key(key)?;
         Ok(self.step(Step::Get { key, now: 0 }))
     }
 
@@ -177,30 +158,51 @@ fn gets_turn_after_turn(rt: &impl Abort, turns: &mut Turns) -> Result<(), Fail> 
 /// The callers that wait for one turn.
 const WAITING: u64 = 1_100;
 
+/// A finish with a value clones it for its caller, and once for all that wait.
+const WRITTEN: Counts = 2 * VALUE_CLONED + CREATED + WEIGHED;
+
+/// Each of those that wait gets a clone.
+const COLLECTED: Counts = (WAITING as Counts) * VALUE_CLONED;
+
 /// Each of many callers that wait for one turn collects its value, and then no ticket is left.
 #[test]
 fn each_caller_that_waits_gets_the_value(rt: HostRuntime) -> Result<(), Fail> {
     let mut turns = Turns::new(rt.alloc(), Kind::With)?;
-    wait_and_collect(&rt, &mut turns, Returned::Value(70))
+    wait_and_collect(&rt, &mut turns, Returned::Value(70), [WRITTEN, COLLECTED])
 }
 
 /// Each of many callers that wait for one turn collects its error, and then no ticket is left.
 #[test]
 fn each_caller_that_waits_gets_the_error(rt: HostRuntime) -> Result<(), Fail> {
     let mut turns = Turns::new(rt.alloc(), Kind::Try)?;
-    wait_and_collect(&rt, &mut turns, Returned::Failed(9))
+    wait_and_collect(&rt, &mut turns, Returned::Failed(9), [NONE, NONE])
 }
 
-/// Ends a turn for which many callers wait. Each of them collects what it ends with.
-fn wait_and_collect(rt: &impl Abort, turns: &mut Turns, end: Returned) -> Result<(), Fail> {
+/// Checks what was asked for, but for hashes, comparisons and clones of keys.
+fn is_asked(rt: &impl Abort, watch: &Watch, expected: Counts) {
+    assert_eq!(rt; watch.counts() / VALUE_CLONED, expected / VALUE_CLONED);
+}
+
+/// Ends a turn for which many callers wait. Each of them collects what it ends with. Checks what the
+/// end asks for, and what they ask for.
+fn wait_and_collect(
+    rt: &impl Abort,
+    turns: &mut Turns,
+    end: Returned,
+    [by_end, by_collects]: [Counts; 2],
+) -> Result<(), Fail> {
     is(rt, turns.begin(7)?, Returned::Runs(0), 0);
     for place in 0..WAITING {
         is(rt, turns.begin(7)?, Returned::Waits(0), place);
     }
+    turns.parts.watch.start();
     is(rt, turns.end(7, 0, end)?, end, 0);
+    is_asked(rt, &turns.parts.watch, by_end);
+    turns.parts.watch.start();
     for place in 0..WAITING {
         is(rt, turns.collect(7, 0)?, end, place);
     }
+    is_asked(rt, &turns.parts.watch, by_collects);
     is(rt, turns.collect(7, 0)?, Returned::Other, WAITING);
     Ok(())
 }
@@ -212,9 +214,13 @@ const KEYS: u64 = 5_000;
 #[test]
 fn each_of_many_keys_gets_a_turn(rt: HostRuntime) -> Result<(), Fail> {
     let mut turns = Turns::new(rt.alloc(), Kind::With)?;
-    open_all(&rt, &mut turns)?;
-    end_all(&rt, &mut turns)?;
-    have_their_values(&rt, &mut turns)
+    get_turns(&rt, &mut turns)
+}
+
+fn get_turns(rt: &impl Abort, turns: &mut Turns) -> Result<(), Fail> {
+    open_all(rt, turns)?;
+    end_all(rt, turns)?;
+    have_their_values(rt, turns)
 }
 
 fn open_all(rt: &impl Abort, turns: &mut Turns) -> Result<(), Fail> {

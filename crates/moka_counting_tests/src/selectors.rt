@@ -1,7 +1,6 @@
 //! What the calls of selectors of owned caches ask for.
 
-use crate::on_owned::{InSegments, InSlab};
-use crate::subject::{Subject, asks, fails};
+use crate::tables::{Tested, asks, fails};
 use moka_model::turns::Kind;
 use moka_test_support::counted_calls::{Any, Before, Selected};
 use moka_test_support::counted_lookups::{ACCESS, FOUND};
@@ -70,17 +69,18 @@ const DEFAULTS: [(Selected, [Counts; 3]); 1] = [(Selected::OrDefault, OR_DEFAULT
 
 /// Checks each call, by value and by reference, which clones the key. A cache asks for so much more
 /// for its segments.
-fn selects_each<S: Subject + Drop>(
+fn selects_each(
     rt: &impl Abort,
     alloc: Global,
+    tested: Tested,
     rows: &[(Selected, [Counts; 3])],
     more: Counts,
 ) -> Result<(), Fail> {
     for (call, counts) in rows {
         let expected = adding(more, *counts);
-        asks::<S>(rt, alloc, Any::Selected(*call, false), expected)?;
+        asks(rt, alloc, tested, Any::Selected(*call, false), expected)?;
         let lent = adding(KEY_CLONED, expected);
-        asks::<S>(rt, alloc, Any::Selected(*call, true), lent)?;
+        asks(rt, alloc, tested, Any::Selected(*call, true), lent)?;
     }
     Ok(())
 }
@@ -88,15 +88,15 @@ fn selects_each<S: Subject + Drop>(
 /// A call of a selector calls its closure once, unless it is a loader that finds a live value.
 #[test]
 fn a_selector_asks_once(rt: HostRuntime) -> Result<(), Fail> {
-    selects_each::<InSlab>(&rt, rt.alloc(), &CALLS, NONE)?;
-    selects_each::<InSlab>(&rt, rt.alloc(), &DEFAULTS, NONE)
+    selects_each(&rt, rt.alloc(), Tested::InSlab, &CALLS, NONE)?;
+    selects_each(&rt, rt.alloc(), Tested::InSlab, &DEFAULTS, NONE)
 }
 
 /// So does a selector of a cache with segments, which hashes once more to choose one.
 #[test]
 fn a_selector_of_a_segment_asks_once(rt: HostRuntime) -> Result<(), Fail> {
-    selects_each::<InSegments>(&rt, rt.alloc(), &CALLS, HASHED)?;
-    selects_each::<InSegments>(&rt, rt.alloc(), &DEFAULTS, NONE)
+    selects_each(&rt, rt.alloc(), Tested::InSegments, &CALLS, HASHED)?;
+    selects_each(&rt, rt.alloc(), Tested::InSegments, &DEFAULTS, NONE)
 }
 
 /// The calls that fail once no sequence number is left, but `or_default`.
@@ -119,17 +119,28 @@ const DEFAULTS_USED_UP: [(Selected, Before, Counts); 1] = [(
 
 /// Checks that each call fails, by value and by reference, which clones the key. A cache asks for so
 /// much more for its segments.
-fn refuses_each<S: Subject + Drop>(
+fn refuses_each(
     rt: &impl Abort,
     alloc: Global,
+    tested: Tested,
     rows: &[(Selected, Before, Counts)],
     more: Counts,
 ) -> Result<(), Fail> {
     for (call, before, counts) in rows {
         let expected = counts.wrapping_add(more);
-        fails::<S>(rt, alloc, (Any::Selected(*call, false), *before, expected))?;
+        fails(
+            rt,
+            alloc,
+            tested,
+            (Any::Selected(*call, false), *before, expected),
+        )?;
         let lent = expected.wrapping_add(KEY_CLONED);
-        fails::<S>(rt, alloc, (Any::Selected(*call, true), *before, lent))?;
+        fails(
+            rt,
+            alloc,
+            tested,
+            (Any::Selected(*call, true), *before, lent),
+        )?;
     }
     Ok(())
 }
@@ -137,15 +148,15 @@ fn refuses_each<S: Subject + Drop>(
 /// A refused call of a selector calls neither its closure nor a policy, and clones no value.
 #[test]
 fn a_refused_selector_asks_no_closure(rt: HostRuntime) -> Result<(), Fail> {
-    refuses_each::<InSlab>(&rt, rt.alloc(), &USED_UP, NONE)?;
-    refuses_each::<InSlab>(&rt, rt.alloc(), &DEFAULTS_USED_UP, NONE)
+    refuses_each(&rt, rt.alloc(), Tested::InSlab, &USED_UP, NONE)?;
+    refuses_each(&rt, rt.alloc(), Tested::InSlab, &DEFAULTS_USED_UP, NONE)
 }
 
 /// So does a refused selector of a cache with segments.
 #[test]
 fn a_refused_selector_of_a_segment_asks_no_closure(rt: HostRuntime) -> Result<(), Fail> {
-    refuses_each::<InSegments>(&rt, rt.alloc(), &USED_UP, HASHED)?;
-    refuses_each::<InSegments>(&rt, rt.alloc(), &DEFAULTS_USED_UP, NONE)
+    refuses_each(&rt, rt.alloc(), Tested::InSegments, &USED_UP, HASHED)?;
+    refuses_each(&rt, rt.alloc(), Tested::InSegments, &DEFAULTS_USED_UP, NONE)
 }
 
 /// The calls that open a turn, each beside an open turn of its kind.
@@ -174,6 +185,6 @@ const BESIDE: [(Selected, Before, Counts); 7] = [
 /// A call of a selector beside an open turn of its kind compares the keys, and calls no closure.
 #[test]
 fn a_selector_beside_a_turn_asks_no_closure(rt: HostRuntime) -> Result<(), Fail> {
-    refuses_each::<InSlab>(&rt, rt.alloc(), &BESIDE, NONE)?;
-    refuses_each::<InSegments>(&rt, rt.alloc(), &BESIDE, HASHED)
+    refuses_each(&rt, rt.alloc(), Tested::InSlab, &BESIDE, NONE)?;
+    refuses_each(&rt, rt.alloc(), Tested::InSegments, &BESIDE, HASHED)
 }

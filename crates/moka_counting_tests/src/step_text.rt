@@ -1,11 +1,10 @@
 //! `Debug` of each step, and of the outcomes of a finish.
 
+use crate::parts::Parts;
 use crate::types::Types;
 use moka_model::turns::{Kind, Op, Outcome};
 use moka_state::step::Step;
-use moka_state::turn_name::TurnName;
 use moka_test_support::counted::{Every, Key, Value};
-use moka_test_support::counts::Watch;
 use std::alloc::{AllocError, Global};
 use std::process::Abort;
 use std::sync::Arc;
@@ -102,93 +101,68 @@ const FINISHES: [(Kind, Ending, &str, &str); 6] = [
     (Kind::Compute, Ending::Nop, "Compute", "Op(Nop)"),
 ];
 
-/// What the keys and the values of steps are made from.
-#[derive(Drop)]
-struct Parts {
-    watch: Arc<Watch>,
-    alloc: Global,
+/// The key and the value of the steps, and the number of the turn.
+const KEY: u64 = 5;
+
+const VALUE: u64 = 50;
+
+const NUMBER: u64 = 3;
+
+fn outcome_of(parts: &Parts, ending: Ending) -> Result<Outcome<Value, Arc<u64>>, AllocError> {
+    Ok(match ending {
+        Ending::Value => Outcome::Value(parts.value(VALUE)?),
+        Ending::Nothing => Outcome::Nothing,
+        Ending::Failed => Outcome::Failed(parts.error(9)?),
+        Ending::Put => Outcome::Op(Op::Put(parts.value(VALUE)?)),
+        Ending::Remove => Outcome::Op(Op::Remove),
+        Ending::Nop => Outcome::Op(Op::Nop),
+    })
 }
 
-impl Parts {
-    fn new(alloc: Global) -> Result<Parts, AllocError> {
-        Ok(Parts {
-            watch: Arc::new(alloc, Watch::new())?,
-            alloc,
-        })
-    }
-
-    fn key(&self) -> Result<Arc<Key>, AllocError> {
-        Ok(Arc::new(self.alloc, Key::new(5, &self.watch)?)?)
-    }
-
-    fn value(&self) -> Result<Value, AllocError> {
-        Value::new(50, &self.watch)
-    }
-
-    fn name(&self, kind: Kind) -> Result<TurnName<Key>, AllocError> {
-        Ok(TurnName {
-            number: 3,
+fn step_of(parts: &Parts, stepped: Stepped) -> Result<CountedStep, AllocError> {
+    match stepped {
+        Stepped::Get
+        | Stepped::ContainsKey
+        | Stepped::Insert
+        | Stepped::OrInsert
+        | Stepped::Invalidate
+        | Stepped::Remove => key_step(parts.key(KEY)?, parts.value(VALUE)?, stepped),
+        Stepped::Begin(kind, replace) => Ok(Step::Begin {
+            key: parts.key(KEY)?,
             kind,
-            key: self.key()?,
-        })
+            replace,
+            now: 7,
+        }),
+        Stepped::BeginCompute(keep) => Ok(Step::BeginCompute {
+            key: parts.key(KEY)?,
+            keep,
+            now: 7,
+        }),
+        Stepped::InvalidateIf => Ok(Step::InvalidateIf {
+            predicate: Arc::new(parts.alloc, Every::new(&parts.watch)?)?,
+        }),
+        _ => turn_step(parts, stepped),
     }
+}
 
-    fn outcome(&self, ending: Ending) -> Result<Outcome<Value, Arc<u64>>, AllocError> {
-        Ok(match ending {
-            Ending::Value => Outcome::Value(self.value()?),
-            Ending::Nothing => Outcome::Nothing,
-            Ending::Failed => Outcome::Failed(Arc::new(self.alloc, 9)?),
-            Ending::Put => Outcome::Op(Op::Put(self.value()?)),
-            Ending::Remove => Outcome::Op(Op::Remove),
-            Ending::Nop => Outcome::Op(Op::Nop),
-        })
-    }
-
-    fn step(&self, stepped: Stepped) -> Result<CountedStep, AllocError> {
-        match stepped {
-            Stepped::Get
-            | Stepped::ContainsKey
-            | Stepped::Insert
-            | Stepped::OrInsert
-            | Stepped::Invalidate
-            | Stepped::Remove => key_step(self.key()?, self.value()?, stepped),
-            Stepped::Begin(kind, replace) => Ok(Step::Begin {
-                key: self.key()?,
-                kind,
-                replace,
-                now: 7,
-            }),
-            Stepped::BeginCompute(keep) => Ok(Step::BeginCompute {
-                key: self.key()?,
-                keep,
-                now: 7,
-            }),
-            Stepped::InvalidateIf => Ok(Step::InvalidateIf {
-                predicate: Arc::new(self.alloc, Every::new(&self.watch)?)?,
-            }),
-            _ => self.turn_step(stepped),
-        }
-    }
-
-    fn turn_step(&self, stepped: Stepped) -> Result<CountedStep, AllocError> {
-        Ok(match stepped {
-            Stepped::Finish(kind, ending) => Step::Finish {
-                name: self.name(kind)?,
-                outcome: self.outcome(ending)?,
-                now: 7,
-            },
-            Stepped::Abandon(kind) => Step::Abandon {
-                name: self.name(kind)?,
-            },
-            Stepped::Collect(kind) => Step::Collect {
-                name: self.name(kind)?,
-            },
-            Stepped::Leave(kind) => Step::Leave {
-                name: self.name(kind)?,
-            },
-            _ => step_of_all(stepped),
-        })
-    }
+fn turn_step(parts: &Parts, stepped: Stepped) -> Result<CountedStep, AllocError> {
+    Ok(match stepped {
+        Stepped::Finish(kind, ending) => Step::Finish {
+            name: parts.name(kind, KEY, NUMBER)?,
+            outcome: outcome_of(parts, ending)?,
+            now: 7,
+        },
+        Stepped::Abandon(kind) => Step::Abandon {
+            name: parts.name(kind, KEY, NUMBER)?,
+        },
+        Stepped::Collect(kind) => Step::Collect {
+            name: parts.name(kind, KEY, NUMBER)?,
+        },
+        Stepped::Leave(kind) => Step::Leave {
+            name: parts.name(kind, KEY, NUMBER)?,
+        },
+        _ => step_of_all(stepped),
+    })
 }
 
 /// Returns a step about the key. The last case is `Remove`.
@@ -227,7 +201,7 @@ fn says(rt: &impl Abort, alloc: Global, step: &CountedStep, text: &str) -> Resul
 fn each_step_is_written_in_full(rt: HostRuntime) -> Result<(), Fail> {
     let parts = Parts::new(rt.alloc())?;
     for (stepped, text) in TEXTS {
-        says(&rt, rt.alloc(), &parts.step(stepped)?, text)?;
+        says(&rt, rt.alloc(), &step_of(&parts, stepped)?, text)?;
     }
     Ok(())
 }
@@ -237,7 +211,7 @@ fn each_step_is_written_in_full(rt: HostRuntime) -> Result<(), Fail> {
 fn a_finish_is_written_in_full(rt: HostRuntime) -> Result<(), Fail> {
     let parts = Parts::new(rt.alloc())?;
     for (kind, ending, name, outcome) in FINISHES {
-        let step = parts.step(Stepped::Finish(kind, ending))?;
+        let step = step_of(&parts, Stepped::Finish(kind, ending))?;
         let text = finish_text(rt.alloc(), name, outcome)?;
         says(&rt, rt.alloc(), &step, text.as_str())?;
     }

@@ -5,9 +5,9 @@ use moka_policy::policy::Refused;
 use moka_state::handles::Turn;
 use moka_test_support::counted::Key;
 use moka_test_support::counted_calls::{
-    Any, Before, Call, Form, Given, LATER, NOW, Row, Rules, Selected, rules_of, share_key,
+    Any, Before, Call, Form, Given, LATER, NOW, Rules, Selected, rules_of, share_key,
 };
-use moka_test_support::counts::{Counts, Watch, adding, unstored};
+use moka_test_support::counts::{Counts, Watch};
 use std::alloc::Global;
 use std::process::Abort;
 use std::sync::Arc;
@@ -85,7 +85,7 @@ fn fill<S: Subject>(
 }
 
 /// Makes a call about key 1. Returns whether it succeeded, and what it asked for.
-fn asks_of<S: Subject + Drop>(
+pub(crate) fn asks_of<S: Subject + Drop>(
     rt: &impl Abort,
     alloc: Global,
     any: Any,
@@ -128,69 +128,4 @@ fn asks_beside_a_turn<S: Subject>(
     let is_done = call(alloc, cache, any, 1, watch, NOW);
     assert!(rt; cache.abandon(turn));
     is_done
-}
-
-/// Checks what each call asks for. A cache asks for so much more for its segments.
-pub(crate) fn asks_each<S: Subject + Drop>(
-    rt: &impl Abort,
-    alloc: Global,
-    rows: &[Row],
-    more: Counts,
-) -> Result<(), Fail> {
-    for (any, expected) in rows {
-        asks::<S>(rt, alloc, *any, adding(more, *expected))?;
-    }
-    Ok(())
-}
-
-/// Checks what a call asks for. At a capacity of 0 it asks for what it asks of a missing key, and
-/// calls no policy.
-pub(crate) fn asks<S: Subject + Drop>(
-    rt: &impl Abort,
-    alloc: Global,
-    any: Any,
-    expected: [Counts; 3],
-) -> Result<(), Fail> {
-    let [missing, live, expired] = expected;
-    for (before, counts) in [
-        (Before::Missing, missing),
-        (Before::Live, live),
-        (Before::Expired, expired),
-        (Before::NoRoom, unstored(missing)),
-    ] {
-        let asked = asks_of::<S>(rt, alloc, any, before)?;
-        is(rt, asked, (true, counts), any, before);
-    }
-    Ok(())
-}
-
-/// A call that fails, what becomes of key 1 before it, and what it asks for.
-pub(crate) type Failure = (Any, Before, Counts);
-
-/// Checks that each call fails, and what it asks for. A cache asks for so much more for its
-/// segments.
-pub(crate) fn fails_each<S: Subject + Drop>(
-    rt: &impl Abort,
-    alloc: Global,
-    rows: &[Failure],
-    more: Counts,
-) -> Result<(), Fail> {
-    for (any, before, counts) in rows {
-        fails::<S>(rt, alloc, (*any, *before, counts.wrapping_add(more)))?;
-    }
-    Ok(())
-}
-
-pub(crate) fn fails<S: Subject + Drop>(
-    rt: &impl Abort,
-    alloc: Global,
-    (any, before, counts): Failure,
-) -> Result<(), Fail> {
-    let asked = asks_of::<S>(rt, alloc, any, before)?;
-    is(rt, asked, (false, counts), any, before);
-    Ok(())
-}
-
-fn is(rt: &impl Abort, asked: (bool, Counts), expected: (bool, Counts), any: Any, before: Before) {
-    assert_eq!(rt; asked, expected, "{any:?}, {before:?}");
 }
