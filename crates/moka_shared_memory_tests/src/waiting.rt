@@ -1,11 +1,10 @@
 //! A loader or a compute whose end fails while another caller waits for its turn. The other one is
 //! woken and gets a turn of its own.
 
-use crate::caches::{AnyCache, four_locks, new_heard, one_lock};
-use crate::shared::Shared;
+use crate::caches::{FourLocks, OneLock, four_locks, new_heard, one_lock};
+use crate::shared::Inserts;
 use crate::twin::LAST;
 use crate::values::{NO_MEMORY, Returned, number_of, text, value_of};
-use either::{Left, Right, for_both};
 use moka::common::entry::Entry;
 use moka::policy::{EvictionPolicy, Refused};
 use moka_test_support::marks::{Marks, count_so_far, mark, new_marks, pause, reaches};
@@ -40,6 +39,9 @@ enum Form {
 /// A shared cache whose callers wait for each other.
 trait Meets<R: Clock>: Sized {
     fn share(&self) -> Result<Self, AllocError>;
+
+    /// Stores a value of the key that both callers ask for.
+    fn store(&self, value: String) -> Inserts;
 
     /// Loads by a closure that waits until the second caller waits for it.
     fn load_first(&self, rt: &R, marks: &Marks, value: String) -> Result<String, Refused>;
@@ -78,33 +80,63 @@ fn value_in(entry: Result<Entry<u64, String>, Refused>) -> Result<String, Refuse
     Ok(entry?.into_value())
 }
 
-impl<W: Wait + Clock + Drop> Meets<W> for AnyCache<W> {
+impl<W: Wait + Clock + Drop> Meets<W> for OneLock<W> {
     fn share(&self) -> Result<Self, AllocError> {
-        Ok(match &self.any {
-            Left(cache) => AnyCache::one(cache.clone()?),
-            Right(cache) => AnyCache::four(cache.clone()?),
-        })
+        self.clone()
+    }
+
+    fn store(&self, value: String) -> Inserts {
+        self.insert(KEY, value)
     }
 
     fn load_first(&self, rt: &W, marks: &Marks, value: String) -> Result<String, Refused> {
         let init = || once_it_waits(rt, marks, Form::Loader, value);
-        for_both!(&self.any, cache => cache.get_with_if(KEY, init, |_| true))
+        self.get_with_if(KEY, init, |_| true)
     }
 
     fn load_second(&self, marks: &Marks, value: String) -> Result<String, Refused> {
-        let init = || asked(marks, value);
-        for_both!(&self.any, cache => cache.get_with_if(KEY, init, |_| turns_it_down(marks)))
+        self.get_with_if(KEY, || asked(marks, value), |_| turns_it_down(marks))
     }
 
     fn upsert_first(&self, rt: &W, marks: &Marks, value: String) -> Result<String, Refused> {
-        let change = |_| once_it_waits(rt, marks, Form::Upsert, value);
-        value_in(for_both!(&self.any, cache => cache.entry(KEY).and_upsert_with(change)))
+        let entry = self.entry(KEY);
+        value_in(entry.and_upsert_with(|_| once_it_waits(rt, marks, Form::Upsert, value)))
     }
 
     fn upsert_second(&self, marks: &Marks, value: String) -> Result<String, Refused> {
         mark(&marks.arrived);
-        let change = |_| asked(marks, value);
-        value_in(for_both!(&self.any, cache => cache.entry(KEY).and_upsert_with(change)))
+        let entry = self.entry(KEY);
+        value_in(entry.and_upsert_with(|_| asked(marks, value)))
+    }
+}
+
+impl<W: Wait + Clock + Drop> Meets<W> for FourLocks<W> {
+    fn share(&self) -> Result<Self, AllocError> {
+        self.clone()
+    }
+
+    fn store(&self, value: String) -> Inserts {
+        self.insert(KEY, value)
+    }
+
+    fn load_first(&self, rt: &W, marks: &Marks, value: String) -> Result<String, Refused> {
+        let init = || once_it_waits(rt, marks, Form::Loader, value);
+        self.get_with_if(KEY, init, |_| true)
+    }
+
+    fn load_second(&self, marks: &Marks, value: String) -> Result<String, Refused> {
+        self.get_with_if(KEY, || asked(marks, value), |_| turns_it_down(marks))
+    }
+
+    fn upsert_first(&self, rt: &W, marks: &Marks, value: String) -> Result<String, Refused> {
+        let entry = self.entry(KEY);
+        value_in(entry.and_upsert_with(|_| once_it_waits(rt, marks, Form::Upsert, value)))
+    }
+
+    fn upsert_second(&self, marks: &Marks, value: String) -> Result<String, Refused> {
+        mark(&marks.arrived);
+        let entry = self.entry(KEY);
+        value_in(entry.and_upsert_with(|_| asked(marks, value)))
     }
 }
 
@@ -223,9 +255,9 @@ where
 fn meet<R, M>(rt: &R, alloc: Global, cache: &M, form: Form) -> Result<(), Fail>
 where
     R: Clock + Threads + Abort + Copy + Drop + Send + Sync + 'static,
-    M: Meets<R> + Shared + Drop + Send + Sync + 'static,
+    M: Meets<R> + Drop + Send + Sync + 'static,
 {
-    store(alloc, cache)?;
+    store::<R, M>(alloc, cache)?;
     let marks = new_marks(alloc)?;
     let values = two_texts(alloc, FIRST)?;
     let child = start_second(rt, alloc, cache, &marks, form)?;
@@ -237,9 +269,9 @@ where
 }
 
 /// Stores the value that both replace. Retries once if an allocation fails.
-fn store<S: Shared>(alloc: Global, cache: &S) -> Result<(), Fail> {
-    if let Err(back) = cache.write(KEY, text(alloc, BEFORE)?) {
-        cache.write(back.key, back.value)?;
+fn store<R: Clock, M: Meets<R>>(alloc: Global, cache: &M) -> Result<(), Fail> {
+    if let Err(back) = cache.store(text(alloc, BEFORE)?) {
+        cache.store(back.value)?;
     }
     Ok(())
 }
@@ -264,7 +296,7 @@ where
     W: Wait + Clock + Threads + Abort + Copy + Drop + Send + Sync + 'static,
 {
     let heard = new_heard(alloc)?;
-    let cache = AnyCache::one(one_lock(rt, alloc, &heard, 2, EvictionPolicy::lru())?);
+    let cache = one_lock(rt, alloc, &heard, 2, EvictionPolicy::lru())?;
     meet(&rt, alloc, &cache, form)
 }
 
@@ -273,7 +305,7 @@ where
     W: Wait + Clock + Threads + Abort + Copy + Drop + Send + Sync + 'static,
 {
     let heard = new_heard(alloc)?;
-    let cache = AnyCache::four(four_locks(rt, alloc, &heard, 8, EvictionPolicy::lru())?);
+    let cache = four_locks(rt, alloc, &heard, 8, EvictionPolicy::lru())?;
     meet(&rt, alloc, &cache, form)
 }
 
