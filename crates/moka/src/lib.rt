@@ -98,7 +98,7 @@ pub mod state {
     pub use moka_state::packed::PackedEntryInfo;
     pub use moka_state::predicate_error::PredicateError;
     #[doc(hidden)]
-    pub use moka_state::rows::{Access, Order, Previous, Row};
+    pub use moka_state::rows::{Access, Order, Previous, Row, RowRef};
     pub use moka_state::rows::{EntryInfo, OwnLife, RowId, RowStore};
     pub use moka_state::slab_rows::SlabRows;
     pub use moka_state::state::{CacheState, InsertRefused, Settings, State};

@@ -3,36 +3,10 @@
 use crate::tables::{Failure, Tested, asks_each, fails_each};
 use moka_model::turns::Kind;
 use moka_test_support::counted_calls::{Any, Before, Form, Row};
+use moka_test_support::counted_forms::{FORMS, HASH_AND_KEY, LOAD, RELOAD};
 use moka_test_support::counted_lookups::{ACCESS, FOUND};
-use moka_test_support::counts::{
-    COMPARED, COMPUTED, CREATED, Counts, HASHED, JUDGED, KEY_CLONED, NONE, UPDATED, VALUE_CLONED,
-    WEIGHED,
-};
+use moka_test_support::counts::{Counts, HASHED, KEY_CLONED, NONE};
 use std::test::Fail;
-
-/// An access to a value that a `replace_if` leaves.
-const LEFT: Counts = ACCESS + JUDGED;
-
-/// A value that a `replace_if` turns down.
-const TURNED_DOWN: Counts = FOUND + JUDGED;
-
-/// A loader that opens a turn and computes: a begin, and a finish that writes. Both hash the key.
-const LOAD: Counts = 2 * HASHED + 2 * COMPARED + VALUE_CLONED + COMPUTED + CREATED + WEIGHED;
-
-/// The same over an expired value, which both find.
-const RELOAD: Counts = LOAD + 2 * COMPARED;
-
-/// The same over a live value that was turned down.
-const REPLACEMENT: Counts = RELOAD - CREATED + UPDATED + JUDGED;
-
-/// The hash, and a clone of the key.
-const HASH_AND_KEY: Counts = HASHED + KEY_CLONED;
-
-/// The hash, a comparison, and a clone of the key.
-const FOUND_AND_KEY: Counts = FOUND + KEY_CLONED;
-
-/// A value that a `replace_if` turns down, and a clone of the key.
-const TURNED_DOWN_AND_KEY: Counts = TURNED_DOWN + KEY_CLONED;
 
 /// A loader by reference that computes, and clones the key.
 const LOAD_AND_KEY: Counts = LOAD + KEY_CLONED;
@@ -40,60 +14,35 @@ const LOAD_AND_KEY: Counts = LOAD + KEY_CLONED;
 /// The same over an expired value.
 const RELOAD_AND_KEY: Counts = RELOAD + KEY_CLONED;
 
-/// What a loader by value asks for if the key is missing, if it is live, and if it is expired.
-const BY_VALUE: [Counts; 3] = [LOAD, ACCESS, RELOAD];
-
-/// The same of a loader by reference.
+/// What a loader by reference asks for if the key is missing, if it is live, and if it is expired.
 const BY_REF: [Counts; 3] = [LOAD_AND_KEY, ACCESS, RELOAD_AND_KEY];
 
-/// A begin of a compute saves a second clone of the live value.
-const FORMS: [Row; 13] = [
-    (Any::Form(Form::GetWith(false)), BY_VALUE),
-    (Any::Form(Form::OptionallyGetWith(false)), BY_VALUE),
-    (Any::Form(Form::TryGetWith(false)), BY_VALUE),
+/// The loaders by reference.
+const BY_REF_FORMS: [Row; 3] = [
     (Any::Form(Form::GetWith(true)), BY_REF),
     (Any::Form(Form::OptionallyGetWith(true)), BY_REF),
     (Any::Form(Form::TryGetWith(true)), BY_REF),
-    (Any::Form(Form::GetWithIf(false)), [LOAD, LEFT, RELOAD]),
-    (
-        Any::Form(Form::GetWithIf(true)),
-        [LOAD, REPLACEMENT, RELOAD],
-    ),
-    (Any::Form(Form::Begin(false, false)), [HASHED, LEFT, FOUND]),
-    (
-        Any::Form(Form::Begin(true, false)),
-        [HASHED, TURNED_DOWN, FOUND],
-    ),
-    (
-        Any::Form(Form::Begin(false, true)),
-        [HASH_AND_KEY, LEFT, FOUND_AND_KEY],
-    ),
-    (
-        Any::Form(Form::Begin(true, true)),
-        [HASH_AND_KEY, TURNED_DOWN_AND_KEY, FOUND_AND_KEY],
-    ),
-    (
-        Any::Form(Form::BeginCompute),
-        [HASHED, ACCESS + VALUE_CLONED, FOUND],
-    ),
 ];
 
 /// A loader calls its closure once on a miss, and never on a hit.
 #[test]
 fn a_loader_asks_once(rt: HostRuntime) -> Result<(), Fail> {
-    asks_each(&rt, rt.alloc(), Tested::InSlab, &FORMS, NONE)
+    asks_each(&rt, rt.alloc(), Tested::InSlab, &FORMS, NONE)?;
+    asks_each(&rt, rt.alloc(), Tested::InSlab, &BY_REF_FORMS, NONE)
 }
 
 /// So does a loader over lists.
 #[test]
 fn a_loader_over_lists_asks_once(rt: HostRuntime) -> Result<(), Fail> {
-    asks_each(&rt, rt.alloc(), Tested::InLists, &FORMS, NONE)
+    asks_each(&rt, rt.alloc(), Tested::InLists, &FORMS, NONE)?;
+    asks_each(&rt, rt.alloc(), Tested::InLists, &BY_REF_FORMS, NONE)
 }
 
 /// So does a loader of a cache with segments, which hashes once more to choose one.
 #[test]
 fn a_loader_of_a_segment_asks_once(rt: HostRuntime) -> Result<(), Fail> {
-    asks_each(&rt, rt.alloc(), Tested::InSegments, &FORMS, HASHED)
+    asks_each(&rt, rt.alloc(), Tested::InSegments, &FORMS, HASHED)?;
+    asks_each(&rt, rt.alloc(), Tested::InSegments, &BY_REF_FORMS, HASHED)
 }
 
 /// The calls that fail once no sequence number is left.

@@ -4,7 +4,7 @@ ghost use Rattle.moka_model.specs.Lives.{has_come};
 ghost use Rattle.moka_model.specs.Calls.{IsCopyOf};
 
 use moka_policy::policy::Refused;
-use moka_rows::rows::Row;
+use moka_rows::rows::RowRef;
 
 /// Returns a clone of a row's value, or `None` if that is not live at `now`. Then nothing is
 /// cloned.
@@ -13,13 +13,13 @@ use moka_rows::rows::Row;
 ///
 /// - `OutOfMemory`: cloning the value failed.
 #[inline(always)]
-pub fn copy_of_live<K, V: Clone>(row: &Row<K, V>, now: u64) -> Result<Option<V>, Refused>
+pub fn copy_of_live<K, V: Clone>(row: RowRef<'_, K, V>, now: u64) -> Result<Option<V>, Refused>
     ensures copy { IfOk result (IsCopyOf V.is_clone
-        (if row.now.info.is_hidden || has_come row.now.info.deadline now then None
-        else Some row.now.value)) }
-    ensures dead { (row.now.info.is_hidden || has_come row.now.info.deadline now) ≡ true →
+        (if row.entry.info.is_hidden || has_come row.entry.info.deadline now then None
+        else Some row.entry.value)) }
+    ensures dead { (row.entry.info.is_hidden || has_come row.entry.info.deadline now) ≡ true →
         IsOk result }
-    ensures infallible { V.is_infallible row.now.value → IsOk result }
+    ensures infallible { V.is_infallible row.entry.value → IsOk result }
     ensures cause { IfErr result (λ cause. cause ≡ Refused.OutOfMemory) }
 {
     if row.info().is_dead(now) {

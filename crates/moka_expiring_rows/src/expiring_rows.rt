@@ -13,7 +13,7 @@ ghost use Rattle.moka_expiring_rows.specs.RowDeadlines.{without_deadline, is_of_
 ghost use Rattle.moka_expiring_rows.specs.RowDeadlines.{HasPlace, IsNoted};
 
 use moka_expiry_index::expiry_index::ExpiryIndex;
-use moka_rows::rows::{Access, EntryInfo, Order, Previous, Row, RowId, RowStore};
+use moka_rows::rows::{Access, EntryInfo, Order, Previous, Row, RowId, RowRef, RowStore};
 use moka_slab::slab_rows::{FIRST, SlabRows};
 use std::alloc::{AllocError, Global};
 
@@ -184,7 +184,7 @@ impl<K: Eq + Drop, V: Drop> RowStore<K, V> for ExpiringRows<K, V> {
     }
 
     #[inline(always)]
-    fn row(&self, number: RowId) -> &Row<K, V> {
+    fn row(&self, number: RowId) -> RowRef<'_, K, V> {
         self.rows.row(number)
     }
 
@@ -206,6 +206,25 @@ impl<K: Eq + Drop, V: Drop> RowStore<K, V> for ExpiringRows<K, V> {
     #[inline(always)]
     fn has_deadlines(&self) -> bool {
         self.has_deadlines
+    }
+
+    /// Returns how many rows can be added without an allocation, at least. Once a row has had a
+    /// deadline, these are rows whose deadlines have room too.
+    fn room(&self) -> usize
+        ensures room { result ≤ room_of self.now }
+        ensures ready { 0 < result → self.now.has_deadlines ≡ true
+            → (self.now.is_whole ≡ true) × IsReady result self.now }
+    {
+        let room = self.rows.room();
+        if !self.has_deadlines {
+            return room;
+        }
+        let count = self.rows.len();
+        let (known, places) = (self.deadlines.known(), self.deadlines.room());
+        if !self.is_whole || known <= self.top || places < count {
+            return 0;
+        }
+        room.min(known - self.top - 1).min(places - count)
     }
 
     /// Makes room for this many more rows. It makes room for the deadlines of all rows if a row has

@@ -133,6 +133,20 @@ impl ExpiryIndex {
         }
     }
 
+    /// Returns the number below which each number has a place.
+    pub fn known(&self) -> usize
+        ensures { result ≡ known_of self.now }
+    {
+        self.places.len()
+    }
+
+    /// Returns for how many numbers there is room.
+    pub fn room(&self) -> usize
+        ensures { result ≡ room_of self.now }
+    {
+        self.size / 2
+    }
+
     /// Returns whether no slot is used up. Then there is no number in the order.
     #[inline(always)]
     pub fn is_unused(&self) -> bool

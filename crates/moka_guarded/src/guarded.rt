@@ -5,6 +5,7 @@ ghost use Rattle.std.specs.Arc.{arc_value};
 ghost use Rattle.std.specs.Duration.{as_nanos};
 ghost use Rattle.moka_model.specs.Calls.{Get, ContainsKey, Insert, Invalidate, Remove, InvalidateAll, InvalidateIf, RunPendingTasks, RunPendingTasksUpTo, EntryCount, WeightedSize, TakeNotice, Contains, Counted, Left, Noticed};
 ghost use Rattle.moka_state.specs.State.{all_writes};
+ghost use Rattle.moka_state.specs.Hashes.{IsHashOf};
 ghost use Rattle.moka_state.specs.Write.{WriteEnds};
 ghost use Rattle.moka_table.specs.Table.{removal_of};
 ghost use Rattle.moka_guarded.specs.Guarded.{GuardedData, AtClockMoment};
@@ -110,6 +111,14 @@ impl<K: Hash + Drop, V: Clone, C: CacheTypes<K, V>> GuardedState<K, V, C> {
         ensures { C.Clock.tells self.now.clock result }
     {
         self.clock.now()
+    }
+
+    /// Returns the hash of `key` by the state's hasher, as the calls that take a hash want it.
+    pub fn hash(&self, key: &K) -> u64
+        ensures { IsHashOf (⟦<C as StateView<K, V>>⟧.settings self.now.state.settings)
+            key.now result }
+    {
+        self.state.hash(key)
     }
 
     /// Returns a clone of the live value for `key`, or `None`. Counts as an access.

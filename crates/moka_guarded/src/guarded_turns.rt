@@ -1,6 +1,6 @@
 //! The calls of turns under the lock of a shared cache, and those that return entries. Each fails
 //! as the state's call does, and then changes nothing.
-ghost use Rattle.std.specs.Prelude.{◌≡◌, ◌≢◌, ℕ, Option, true, IfOk, IfErr, IfSome, OnOk, OnErr};
+ghost use Rattle.std.specs.Prelude.{◌≡◌, ◌≢◌, ℕ, Bool, Option, true, IfOk, IfErr, IfSome, OnOk, OnErr};
 ghost use Rattle.std.specs.Arc.{arc_value};
 ghost use Rattle.moka_model.specs.Calls.{Abandon, Collect, Leave};
 ghost use Rattle.moka_turns.specs.Handles.{turn_name, ticket_name};
@@ -8,10 +8,11 @@ ghost use Rattle.moka_state.specs.Begin.{EntryKeeps, FoundKeeps, FoundKeepsFor, 
 ghost use Rattle.moka_state.specs.Compute.{IsCompute, ShownKeepsFor};
 ghost use Rattle.moka_state.specs.Finish.{Fits, OutcomeKeeps, outcome_of};
 ghost use Rattle.moka_state.specs.Given.{IfUnspent, of_collect, of_done};
+ghost use Rattle.moka_state.specs.Hashes.{IsHashOf};
 ghost use Rattle.moka_state.specs.OrInsert.{of_or_default, of_or_insert};
 ghost use Rattle.moka_guarded.specs.Guarded.{AtClockMoment};
 ghost use Rattle.moka_guarded.specs.Kept.{CollectedFits, CollectedKeeps, FinishedKeeps};
-ghost use Rattle.moka_state.specs.Ends.{BeginsCompute, FinishesTurn, GivesAt, LoaderBegins, LoaderBeginsByRef, Looks, OrInserts};
+ghost use Rattle.moka_state.specs.Ends.{BeginsCompute, FinishesTurn, GivesAt, LoaderBegins, LoaderBeginsAs, LoaderBeginsByRef, Looks, Misses, OrInserts};
 
 use crate::guarded::GuardedState;
 use moka_model::entry::Entry;
@@ -57,24 +58,52 @@ impl<K: Hash + Drop, V: Clone, C: CacheTypes<K, V>> GuardedState<K, V, C> {
         ensures kept { IfOk result (λ found. IfSome found (EntryKeeps C.keeps key.now)) }
     {
         let now = self.clock.now();
-        self.find_acceptable_at(key, replace_if, now)
+        let hash = self.hash(key);
+        self.find_acceptable_with_hash(key, hash, replace_if, now)
     }
 
-    /// Does what `find_acceptable` does, at a moment that the caller has read.
-    pub fn find_acceptable_at<F: FnMut(&V) -> bool + Drop>(
+    /// Does what `find_acceptable` does, at a moment that the caller has read, and given the key's
+    /// hash, as [`GuardedState::hash`] returns it. The key is not hashed again.
+    pub fn find_acceptable_with_hash<F: FnMut(&V) -> bool + Drop>(
         &mut self,
         key: &K,
+        hash: u64,
         replace_if: Option<F>,
         now: u64,
     ) -> Result<Option<Entry<K, V>>, Refused>
+        requires hash { IsHashOf (⟦<C as StateView<K, V>>⟧.settings self.old.state.settings)
+            key.now hash }
         requires asks { IfSome replace_if (TakesLive K.eq C.keeps
             ⟦<C as StateView<K, V>>⟧.settings F.FnMut key.now now self.old.state) }
         ensures step { Looks ⟦<C as CallView<K, V>>⟧.spec (IsSaidOf F.FnMut replace_if) key.now now
             self.old.state self.new.state result }
         ensures kept { IfOk result (λ found. IfSome found (EntryKeeps C.keeps key.now)) }
     {
-        let hash = self.state.hash(key);
         self.state.acceptable_entry(key, hash, replace_if, now)
+    }
+
+    /// Returns a ticket if a turn of the key and the kind is open, else a new turn. Neither hashes
+    /// the key nor looks it up: a lookup at this moment has just found no acceptable value.
+    pub fn begin_missed(
+        &mut self,
+        key: Arc<K>,
+        hash: u64,
+        kind: Kind,
+        now: u64,
+    ) -> Result<Begun<K, V>, Refused>
+        requires hash { IsHashOf (⟦<C as StateView<K, V>>⟧.settings self.old.state.settings)
+            (arc_value key) hash }
+        requires initializer { kind ≢ Kind.Compute }
+        requires missed { (said : Option Bool) × Misses ⟦<C as CallView<K, V>>⟧.spec
+            self.old.state said (arc_value key) now }
+        ensures step { (said : Option Bool) → Misses ⟦<C as CallView<K, V>>⟧.spec self.old.state
+            said (arc_value key) now → LoaderBeginsAs ⟦<C as CallView<K, V>>⟧.spec said
+            (arc_value key) kind now true self.old.state self.new.state result }
+        ensures named { IfOk result (IsNamed kind (arc_value key)) }
+        ensures kept { IfOk result (FoundKeeps C.keeps) }
+        ensures kept_for { IfOk result (FoundKeepsFor C.keeps (arc_value key)) }
+    {
+        self.state.begin_turn(key, hash, kind, now, true)
     }
 
     /// Returns the live entry of `key` if it is acceptable. Otherwise returns a ticket if a turn of

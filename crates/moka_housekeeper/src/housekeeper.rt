@@ -182,7 +182,7 @@ impl<F: FrequencySource> Housekeeper<F> {
     {
         let row = table.row(number);
         let info = row.info();
-        let own_life = behaviour.life_of_hit(&row.key, &row.value, info, now);
+        let own_life = behaviour.life_of_hit(row.key, row.value, info, now);
         let last_accessed = info.last_accessed.max(now);
         let touch = self.lives.touch_of(info, last_accessed, own_life);
         table.touch(number, touch);

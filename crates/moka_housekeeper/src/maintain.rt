@@ -352,7 +352,7 @@ fn victims<K: Eq + Drop, V: Drop, R: RowStore<K, V>>(
         match cursor {
             Some(number) => {
                 cursor = table.next(number, visits);
-                weight -= u128::from(table.row(number).info().policy_weight);
+                weight -= u64::from(table.row(number).info().policy_weight);
             }
             None => unreachable!(),
         }
@@ -427,14 +427,14 @@ fn evict_first<K: Eq + Drop, V: Drop, R: RowStore<K, V>>(table: &mut Table<K, V,
 
 /// Returns whether this much more weight fits beside a weight within the capacity, if there is one.
 #[inline(always)]
-fn fits(capacity: Option<u64>, more: u32, weight: u128) -> bool
+fn fits(capacity: Option<u64>, more: u32, weight: u64) -> bool
     ensures { result ≡ is_within capacity (more + weight) }
 {
     match capacity {
         None => true,
         Some(capacity) => match capacity.checked_sub(u64::from(more)) {
             None => false,
-            Some(left) => weight <= u128::from(left),
+            Some(left) => weight <= left,
         },
     }
 }

@@ -1,6 +1,6 @@
 -- What the crates above may use of the proofs here: numbers in lists, links one by one, and what holds of all that stand.
 pub use Rattle.moka_index.proofs.PathLemmas.{IsApart, apart-counted, absent-without, among-push, among-without, among-others}
-pub use Rattle.moka_index.proofs.PathLemmas.{without-here, without-there, without-absent, among-front, among-back, among-parts, last-stays, no-more}
+pub use Rattle.moka_index.proofs.PathLemmas.{without-here, without-there, without-absent, among-front, among-back, among-parts, last-stays, no-more, few-below}
 pub use Rattle.moka_index.proofs.ChainLemmas.{IsLine}
 use Rattle.std.proofs.Common.{◌≡◌, ℕ, ◌<◌, ◌≤◌, ◌^◌, Bool, true, false, length, arith}
 use Rattle.moka_index.specs.Paths.{IsAmong, IsAbsent}

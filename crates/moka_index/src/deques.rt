@@ -136,6 +136,14 @@ impl Deques {
         node.same
     }
 
+    /// Returns how many nodes there are.
+    #[inline(always)]
+    pub fn places(&self) -> usize
+        ensures { result ≡ places_in self.now }
+    {
+        self.nodes.len()
+    }
+
     /// Makes the nodes of all numbers below `places`. The orders and the hashes stay as they were,
     /// also if it fails.
     ///

@@ -169,6 +169,15 @@ impl RowIndex {
         self.bucket_heads.reserve(more)
     }
 
+    /// Returns for how many places there is room, and for how many more hashes.
+    pub fn room(&self) -> (usize, usize)
+        ensures places { result.0 ≤ places_of self.now }
+        ensures spare { result.1 ≤ spare_of self.now }
+    {
+        let spare = self.bucket_heads.capacity() - self.bucket_heads.len();
+        (self.orders.places(), spare)
+    }
+
     /// Appends a new number to the pending ones, and puts it before all others with its hash. Does
     /// not allocate, and uses the room of at most one hash.
     #[inline(always)]

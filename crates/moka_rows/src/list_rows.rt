@@ -7,7 +7,7 @@ ghost use Rattle.moka_rows.specs.Numbers.{IsNumbered, IsPlaceOf, IsPlaceIn};
 
 use crate::counted_row::{CountedList, CountedRow};
 use crate::lookup::find_row;
-use crate::rows::{Access, EntryInfo, Order, Previous, Row, RowId, RowStore};
+use crate::rows::{Access, EntryInfo, Order, Previous, Row, RowId, RowRef, RowStore};
 use crate::visits::step;
 use std::alloc::{AllocError, Global};
 
@@ -111,10 +111,10 @@ impl<K: Eq + Drop, V: Drop> RowStore<K, V> for ListRows<K, V> {
         find_row(admitted, waiting, key, hash, reads)
     }
 
-    fn row(&self, number: RowId) -> &Row<K, V> {
+    fn row(&self, number: RowId) -> RowRef<'_, K, V> {
         match self.place(number) {
-            Place::Admitted(place) => self.admitted[place].1.row(),
-            Place::Waiting(place) => self.waiting[place].1.row(),
+            Place::Admitted(place) => self.admitted[place].1.row().lend(),
+            Place::Waiting(place) => self.waiting[place].1.row().lend(),
         }
     }
 
@@ -122,7 +122,10 @@ impl<K: Eq + Drop, V: Drop> RowStore<K, V> for ListRows<K, V> {
         self.row(number).hash
     }
 
-    fn numbers_differ(&self) {}
+    fn numbers_differ(&self) {
+        // Read, so that the clause `few` knows that it has 32 bits.
+        let _next = self.next;
+    }
 
     fn is_admitted(&self, number: RowId) -> bool {
         match self.place(number) {
@@ -134,6 +137,12 @@ impl<K: Eq + Drop, V: Drop> RowStore<K, V> for ListRows<K, V> {
     /// Returns `true`: no row is asked for its deadline.
     fn has_deadlines(&self) -> bool {
         true
+    }
+
+    fn room(&self) -> usize {
+        let admitted = self.admitted.capacity() - self.admitted.len() - self.waiting.len();
+        let waiting = self.waiting.capacity() - self.waiting.len();
+        admitted.min(waiting).min((RowId::MAX - self.next) as usize)
     }
 
     /// Makes room for `more` more rows. No number is ever given out twice.

@@ -3,7 +3,7 @@
 //! A row is a stored key with its value. A number identifies it as long as it is stored. A store
 //! keeps two orders of rows: the pending ones (`waiting`) in arrival order, and the resident ones
 //! (`admitted`) in access order.
-ghost use Rattle.std.specs.Prelude.{◌≡◌, true, false, ◌||◌, ℕ, ◌+◌, ◌<◌, ◌≤◌};
+ghost use Rattle.std.specs.Prelude.{◌≡◌, true, false, ◌||◌, ℕ, ◌+◌, ◌<◌, ◌≤◌, ◌^◌};
 ghost use Rattle.std.specs.Prelude.{List, [], ◌∷◌, ◌++◌, length};
 ghost use Rattle.std.specs.Prelude.{IsSome, IfSome, IfNone, OnOk, OnSome, Some, None, MatchOption};
 ghost use Rattle.moka_model.specs.Lives.{has_come};
@@ -17,6 +17,7 @@ ghost use Rattle.moka_rows.specs.Visits.{one_more};
 use crate::packed::PackedEntryInfo;
 use moka_model::notification::RemovalCause;
 use std::alloc::{AllocError, Global};
+use std::marker::Model;
 use std::mem;
 use std::sync::Arc;
 use std::time::Duration;
@@ -166,6 +167,19 @@ pub struct Row<K, V> {
 }
 
 impl<K, V> Row<K, V> {
+    /// Lends the row.
+    #[inline(always)]
+    pub fn lend(&self) -> RowRef<'_, K, V>
+        ensures { result ≡ self.now }
+    {
+        RowRef {
+            key: &self.key,
+            hash: self.hash,
+            value: &self.value,
+            info: self.info(),
+        }
+    }
+
     /// Returns the metadata of the value.
     #[inline(always)]
     pub fn info(&self) -> EntryInfo
@@ -203,6 +217,43 @@ impl<K, V> Row<K, V> {
     {
         let before = mem::replace(&mut self.info, PackedEntryInfo::new(info));
         (mem::replace(&mut self.value, value), before.info())
+    }
+}
+
+/// A row that a store lends. A contract sees the row.
+#[doc(hidden)]
+#[derive(Drop)]
+pub struct RowRef<'a, K, V> {
+    /// The stored key.
+    pub key: &'a Arc<K>,
+    /// The hash of the key.
+    pub hash: u64,
+    /// The value of the last write.
+    pub value: &'a V,
+    /// The metadata of that value.
+    pub info: EntryInfo,
+}
+
+impl<'a, K, V> Model for RowRef<'a, K, V> {
+    ghost use Rattle.moka_rows.specs.declared.rows.Row.{Row};
+
+    ghost Value = { Row K V };
+
+    ghost view = { λ row. record {
+      key = row.key.now;
+      hash = row.hash;
+      value = row.value.now;
+      info = row.info;
+    } };
+}
+
+impl<'a, K, V> RowRef<'a, K, V> {
+    /// Returns the metadata of the value.
+    #[inline(always)]
+    pub fn info(&self) -> EntryInfo
+        ensures { result ≡ self.now.info }
+    {
+        self.info
     }
 }
 
@@ -245,9 +296,9 @@ pub trait RowStore<K: Eq, V>: Drop {
         ensures read { OnSome result (0 < reads.new) };
 
     /// Returns the row with this number. No two rows have the same number.
-    fn row(&self, number: RowId) -> &Row<K, V>
+    fn row(&self, number: RowId) -> RowRef<'_, K, V>
         requires { IsSome (row_under number (admitted self.now ++ waiting self.now)) }
-        ensures row { row_under number (admitted self.now ++ waiting self.now) ≡ Some result.now }
+        ensures row { row_under number (admitted self.now ++ waiting self.now) ≡ Some result }
         ensures apart { NumbersDiffer (admitted self.now ++ waiting self.now) };
 
     /// Returns the hash of the row with this number. It comes from the row's link, if reading that
@@ -257,9 +308,11 @@ pub trait RowStore<K: Eq, V>: Drop {
         ensures { IfSome (row_under number (admitted self.now ++ waiting self.now))
             (λ row. result ≡ row.hash) };
 
-    /// Does nothing. Its contract says that no two rows have the same number.
+    /// Does nothing. Its contract says that no two rows have the same number, and that there are
+    /// fewer rows than numbers.
     fn numbers_differ(&self)
-        ensures { NumbersDiffer (admitted self.now ++ waiting self.now) };
+        ensures apart { NumbersDiffer (admitted self.now ++ waiting self.now) }
+        ensures few { length (admitted self.now ++ waiting self.now) < 2 ^ 32 };
 
     /// Returns whether the row with this number is resident.
     fn is_admitted(&self, number: RowId) -> bool
@@ -270,6 +323,10 @@ pub trait RowStore<K: Eq, V>: Drop {
     /// Returns whether a row may have a deadline. If not, none has.
     fn has_deadlines(&self) -> bool
         ensures { result ≡ false → AreUndated (admitted self.now ++ waiting self.now) };
+
+    /// Returns how many rows can be added without an allocation, at least.
+    fn room(&self) -> usize
+        ensures { result ≤ room self.now };
 
     /// Makes room for this many more rows. Every row stays as it was, also if the call fails.
     ///

@@ -4,7 +4,7 @@ ghost use Rattle.moka_rows.specs.Rows.{row_under};
 
 use moka_expiring_rows::expiring_rows::ExpiringRows;
 use moka_rows::packed::PackedEntryInfo;
-use moka_rows::rows::{Access, EntryInfo, Order, Previous, Row, RowId, RowStore};
+use moka_rows::rows::{Access, EntryInfo, Order, Previous, Row, RowId, RowRef, RowStore};
 use moka_slab::slab_rows::SlabRows;
 use std::alloc::{AllocError, Global};
 use std::sync::Arc;
@@ -150,9 +150,9 @@ fn waits<R: RowStore<u64, u64>>(rows: &R, number: RowId) -> bool
 }
 
 /// Returns what a row holds.
-fn content_of(row: &Row<u64, u64>) -> Reply {
+fn content_of(row: &RowRef<'_, u64, u64>) -> Reply {
     let info = row.info();
-    Reply::Value(row.value, info.last_modified, info.last_accessed)
+    Reply::Value(*row.value, info.last_modified, info.last_accessed)
 }
 
 /// Does something with the row of a number.
@@ -166,7 +166,7 @@ fn use_row<R: RowStore<u64, u64>>(
 {
     match what {
         Use::Find => row_of(given, Some(number)),
-        Use::Read => content_of(rows.row(number)),
+        Use::Read => content_of(&rows.row(number)),
         Use::Hash => Reply::Is(rows.hash(number) == rows.row(number).hash),
         Use::IsAdmitted => Reply::Is(rows.is_admitted(number)),
         Use::IsHidden => Reply::Is(rows.row(number).info().is_hidden),
@@ -245,7 +245,7 @@ fn make_call<R: RowStore<u64, u64>>(
             None => Reply::Absent,
         },
         Call::TakeFirst => match rows.take_first_admitted() {
-            Some(row) => content_of(&row),
+            Some(row) => content_of(&row.lend()),
             None => Reply::Absent,
         },
         Call::Reserve(more) => {

@@ -272,6 +272,36 @@ fn each_store_makes_room(rt: HostRuntime) -> Result<(), Fail> {
     Ok(())
 }
 
+/// Returns whether an empty store counts less room than it has made for so many rows.
+fn counts_less<R: RowStore<u64, u64>>(alloc: Global, more: usize) -> bool {
+    let mut rows: R = R::new(alloc);
+    match rows.reserve(more) {
+        Ok(()) => rows.room() < more,
+        Err(_) => true,
+    }
+}
+
+/// Returns for how many of the numbers below `most` an empty store counts less room than it has
+/// made.
+fn shortfalls<R: RowStore<u64, u64>>(alloc: Global, most: usize) -> u64 {
+    let mut count = 0_u64;
+    for more in 0..most {
+        if counts_less::<R>(alloc, more) {
+            count = count.wrapping_add(1);
+        }
+    }
+    count
+}
+
+/// Each store counts all the room that it has made.
+#[test]
+fn each_store_counts_its_room(rt: HostRuntime) -> Result<(), Fail> {
+    assert_eq!(rt; shortfalls::<ListRows<u64, u64>>(rt.alloc(), 1_100), 0);
+    assert_eq!(rt; shortfalls::<SlabRows<u64, u64>>(rt.alloc(), 1_100), 0);
+    assert_eq!(rt; shortfalls::<ExpiringSlab>(rt.alloc(), 1_100), 0);
+    Ok(())
+}
+
 /// The slab returns what the tables say.
 #[test]
 fn a_slab_answers_the_tables(rt: HostRuntime) -> Result<(), Fail> {

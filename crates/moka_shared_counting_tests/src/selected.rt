@@ -32,39 +32,29 @@ const OR_INSERT: [Counts; 3] = [
 /// An `or_default`.
 const OR_DEFAULT: [Counts; 3] = [WRITE, ACCESS, REWRITE];
 
-/// A loader that opens a turn and computes: a lookup, a begin, and a finish that writes.
-const LOAD: Counts = WRITE + 2 * HASHED + 2 * COMPARED + VALUE_CLONED + COMPUTED;
+/// A call that opens a turn and computes: a begin, and a finish that writes.
+const LOAD: Counts = WRITE + HASHED + 2 * COMPARED + VALUE_CLONED + COMPUTED;
 
-/// The same over an expired value, which all three find.
-const RELOAD: Counts = LOAD + 3 * COMPARED;
+/// The same over an expired value, which both find.
+const RELOAD: Counts = LOAD + 2 * COMPARED;
 
 const LOADER: [Counts; 3] = [LOAD, ACCESS, RELOAD];
 
-/// A call that opens a turn without a lookup before.
-const LOAD_AT_ONCE: Counts = LOAD - HASHED;
-
-/// The same over an expired value.
-const RELOAD_AT_ONCE: Counts = LOAD_AT_ONCE + 2 * COMPARED;
-
 /// A loader whose `replace_if` leaves a live value.
-const LEAVING: [Counts; 3] = [LOAD_AT_ONCE, ACCESS + JUDGED, RELOAD_AT_ONCE];
+const LEAVING: [Counts; 3] = [LOAD, ACCESS + JUDGED, RELOAD];
 
 /// A loader whose `replace_if` turns down a live value.
-const REPLACING: [Counts; 3] = [
-    LOAD_AT_ONCE,
-    RELOAD_AT_ONCE - CREATED + UPDATED + JUDGED,
-    RELOAD_AT_ONCE,
-];
+const REPLACING: [Counts; 3] = [LOAD, RELOAD - CREATED + UPDATED + JUDGED, RELOAD];
 
 /// A compute over a live value, of which the closure gets a clone and the caller another value.
-const UPDATE: Counts = RELOAD_AT_ONCE - CREATED + VALUE_CLONED + ACCESSED + UPDATED;
+const UPDATE: Counts = RELOAD - CREATED + VALUE_CLONED + ACCESSED + UPDATED;
 
 /// The same, with a clone that is saved for an operation that does nothing.
 const SAVING: Counts = UPDATE + VALUE_CLONED;
 
-const COMPUTE: [Counts; 3] = [LOAD_AT_ONCE, SAVING, RELOAD_AT_ONCE];
+const COMPUTE: [Counts; 3] = [LOAD, SAVING, RELOAD];
 
-const UPSERT: [Counts; 3] = [LOAD_AT_ONCE, UPDATE, RELOAD_AT_ONCE];
+const UPSERT: [Counts; 3] = [LOAD, UPDATE, RELOAD];
 
 /// Each call with a key by value.
 const BY_VALUE: [Row; 10] = [
@@ -99,14 +89,18 @@ const OR_INSERT_BY_REF: [Counts; 3] = [
 /// An `or_default` by reference, which does the same.
 const OR_DEFAULT_BY_REF: [Counts; 3] = [LATE_WRITE + KEY_CLONED, ACCESS, LATE_REWRITE + KEY_CLONED];
 
-/// A loader by reference, which does the same.
-const LOADER_BY_REF: [Counts; 3] = [LOAD + KEY_CLONED, ACCESS, RELOAD + KEY_CLONED];
-
 /// A call by reference that opens a turn without a lookup before, and clones the key.
-const LOAD_AND_KEY: Counts = LOAD_AT_ONCE + KEY_CLONED;
+const LOAD_AND_KEY: Counts = LOAD + KEY_CLONED;
 
 /// The same over an expired value.
-const RELOAD_AND_KEY: Counts = RELOAD_AT_ONCE + KEY_CLONED;
+const RELOAD_AND_KEY: Counts = RELOAD + KEY_CLONED;
+
+/// A loader by reference, which does a lookup before, and clones the key only if it is not live.
+const LOADER_BY_REF: [Counts; 3] = [
+    LOAD_AND_KEY + HASHED,
+    ACCESS,
+    RELOAD_AND_KEY + HASHED + COMPARED,
+];
 
 const LEAVING_BY_REF: [Counts; 3] = [LOAD_AND_KEY, ACCESS + JUDGED + KEY_CLONED, RELOAD_AND_KEY];
 
@@ -166,20 +160,20 @@ fn a_selector_of_a_segment_asks_once(rt: HostRuntime) -> Result<(), Fail> {
     asks_in_segments(&rt, rt.alloc(), &BY_REF, HASHED)
 }
 
-/// Two hashes of the key: of a lookup, and of what follows.
+/// Two hashes of the key: of a lookup, and of the write.
 const TWO_HASHES: Counts = 2 * HASHED;
 
 /// The calls that fail once no sequence number is left.
 const USED_UP: [Failure; 9] = [
     (Any::Selected(Selected::OrInsert, false), TWO_HASHES),
     (Any::Selected(Selected::OrDefault, false), HASHED),
-    (Any::Selected(Selected::OrInsertWith, false), TWO_HASHES),
+    (Any::Selected(Selected::OrInsertWith, false), HASHED),
     (Any::Selected(Selected::OrInsertWithIf(true), false), HASHED),
     (
         Any::Selected(Selected::OrOptionallyInsertWith, false),
-        TWO_HASHES,
+        HASHED,
     ),
-    (Any::Selected(Selected::OrTryInsertWith, false), TWO_HASHES),
+    (Any::Selected(Selected::OrTryInsertWith, false), HASHED),
     (Any::Selected(Selected::AndComputeWith, false), HASHED),
     (Any::Selected(Selected::AndTryComputeWith, false), HASHED),
     (Any::Selected(Selected::AndUpsertWith, false), HASHED),

@@ -23,6 +23,32 @@ module _ {R : Type 0} where
   len-write rows key was r is =
       sym (length-entries_from 0 (slice_set rows.slots key (Some r))) ∙ entries-write 0 rows.slots key was r is ∙ length-entries_from 0 rows.slots
 
+-- room for lives goes with the room for rows
+pub room-within : (lives capacity room : ℕ) → 0 < (if nat_lt lives capacity then 0 else room) → (capacity ≤ lives) × (0 < room)
+room-within lives capacity room some = go (nat_lt lives capacity) refl some
+  where
+    go : (b : Bool) → nat_lt lives capacity ≡ b → 0 < (if b then 0 else room) → (capacity ≤ lives) × (0 < room)
+    go true few none = absurd (omega (arith, none))
+    go false enough there = (ltb-false lives capacity enough, there)
+
+-- if the room of a store of rows does not shrink, the room of a store with lives does not
+pub room-if : (lives capacity lives' capacity' room more : ℕ) → lives' ≡ lives → capacity' ≡ capacity → room ≤ more
+    → (if nat_lt lives capacity then 0 else room) ≤ (if nat_lt lives' capacity' then 0 else more)
+room-if lives capacity lives' capacity' room more same equal up = rw (same, equal) (go (nat_lt lives capacity))
+  where
+    go : (b : Bool) → (if b then 0 else room) ≤ (if b then 0 else more)
+    go true = omega arith
+    go false = up
+
+-- if the room of a store of rows shrinks by one at most, so does the room of a store with lives
+pub room-if-taken : (lives capacity lives' capacity' room more : ℕ) → lives' ≡ lives → capacity' ≡ capacity → room ≤ more + 1
+    → (if nat_lt lives capacity then 0 else room) ≤ (if nat_lt lives' capacity' then 0 else more) + 1
+room-if-taken lives capacity lives' capacity' room more same equal up = rw (same, equal) (go (nat_lt lives capacity))
+  where
+    go : (b : Bool) → (if b then 0 else room) ≤ (if b then 0 else more) + 1
+    go true = omega arith
+    go false = up
+
 below : (v p q a b : ℕ) → p ≤ q → a ≤ b → (if nat_lt p v then 0 else a) ≤ (if nat_lt q v then 0 else b)
 below v p q a b more up = grind (arith)
 

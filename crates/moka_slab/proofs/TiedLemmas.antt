@@ -1,5 +1,5 @@
 -- Rows in a slab and the links between their numbers, before and after each call.
-use Rattle.std.proofs.Common.{◌≡◌, ◌≢◌, ℕ, ◌+◌, ◌-◌, ◌<◌, ◌≤◌, Bool, true, false, List, [], ◌∷◌, ◌++◌, length, Option, Some, None, IsSome, IfSome, MatchOption, refl, sym, ap, subst, ◌∙◌, arith, inl, inr, ⊎_elim}
+use Rattle.std.proofs.Common.{◌≡◌, ◌≢◌, ℕ, ◌+◌, ◌-◌, ◌<◌, ◌≤◌, ◌^◌, Bool, true, false, List, [], ◌∷◌, ◌++◌, length, Option, Some, None, IsSome, IfSome, MatchOption, refl, sym, ap, subst, ◌∙◌, arith, inl, inr, ⊎_elim}
 use Rattle.std.specs.Prelude.{◌⊎◌}
 use Rattle.std.proofs.lemmas.Bool.{cases_eq, cases_lt}
 use Rattle.std.proofs.lemmas.List.{get_or-set_same, get_or-set_other, get_or_past}
@@ -10,10 +10,10 @@ use Rattle.moka_rows.specs.declared.rows.Row.{Row}
 use Rattle.moka_index.specs.Paths.{IsAmong, IsAbsent, without}
 use Rattle.moka_index.specs.RowIndex.{IsLinked, admitted_of, waiting_of, numbers_of, hash_at}
 use Rattle.moka_index.specs.declared.row_index.RowIndex.{RowIndex}
-use Rattle.moka_index.proofs.Callers.{IsApart, absent-without, among-without, among-push, without-absent, among-parts, linked-above, linked-among, among-linked, linked-once, admitted-apart, waiting-apart}
+use Rattle.moka_index.proofs.Callers.{IsApart, absent-without, among-without, among-push, without-absent, among-parts, linked-above, linked-within, linked-among, among-linked, few-below, few-places, linked-once, admitted-apart, waiting-apart}
 use Rattle.moka_slab.specs.NumberedRows.{row_at, numbered, order_of}
 use Rattle.moka_slab.specs.Tied.{IsTied, admitted_rows, waiting_rows, all_rows}
-use Rattle.moka_slab.proofs.NumberedLemmas.{some-of, numbered-append, under-among, under-absent, under-some, numbered-without, numbered-same, numbered-changed, count-numbered}
+use Rattle.moka_slab.proofs.NumberedLemmas.{some-of, numbered-append, under-among, under-absent, under-some, numbered-without, numbered-same, numbered-changed, count-numbered, length-numbered}
 
 apart-both : (xs ys : List ℕ) → IsApart xs → IsApart ys → ((k : ℕ) → IsAmong k xs → IsAbsent k ys) → IsApart (xs ++ ys)
 apart-both [] ys a b once = b
@@ -22,6 +22,16 @@ apart-both (x ∷ xs) ys a b once =
 
 pub numbers-apart : (l : RowIndex) → IsApart (numbers_of l)
 numbers-apart l = apart-both (admitted_of l) (waiting_of l) (admitted-apart l) (waiting-apart l) (λ k q. linked-once l k q)
+
+-- there are fewer numbers than 32 bits have, since the ends have two of them
+pub few-numbers : (l : RowIndex) → length (numbers_of l) < 2 ^ 32
+few-numbers l =
+    let places = few-places l in
+    let few : length (0 ∷ numbers_of l) ≤ 2 ^ 32 =
+    few-below (2 ^ 32) (0 ∷ numbers_of l)
+    ((λ q. let above = linked-above l 0 (linked-among l 0 q) in omega (arith, above)), numbers-apart l)
+    (λ k q. ⊎_elim (λ e. omega (arith, e)) (λ t. let within = linked-within l k (linked-among l k t) in omega (arith, within, places)) q) in
+    omega (arith, few)
 
 -- a number that is linked after an admission or a removal was linked before
 pub linked-admitted : (l m : RowIndex) (n : ℕ) → IsLinked l n → admitted_of m ≡ without n (admitted_of l) ++ n ∷ [] → waiting_of m ≡ without n (waiting_of l) → (k : ℕ) → IsLinked m k → IsLinked l k
@@ -65,6 +75,13 @@ module _ {K V : Type 0} where
   pub numbers-differ : (rows : Slab (Row K V)) (l : RowIndex) → NumbersDiffer (all_rows rows l)
   numbers-differ rows l n = subst (λ t. count_under n t ≤ 1) (sym (all-is rows l)) (count-numbered (row_at rows) n (numbers_of l) (numbers-apart l))
 
+  -- a store has fewer rows than there are numbers
+  pub few-rows : (rows : Slab (Row K V)) (l : RowIndex) → IsTied rows l → length (all_rows rows l) < 2 ^ 32
+  few-rows rows l t =
+      let all : length (all_rows rows l) ≡ length (numbers_of l) = ap length (all-is rows l) ∙ length-numbered (row_at rows) (numbers_of l) (λ k q. t.stored k (linked-among l k q)) in
+      let few = few-numbers l in
+      omega (arith, all, few)
+
   -- a case for each order
   pub by-order : (rows : Slab (Row K V)) (l : RowIndex) (n : ℕ) (r : Row K V) (P : Type 0) (Q : Row K V → Type 0) → IsLinked l n → row_at rows n ≡ Some r
       → (IsAmong n (waiting_of l) → P) → (IsAmong n (admitted_of l) → Q r) → MatchOption (row_under n (admitted_rows rows l)) P Q
@@ -89,17 +106,21 @@ module _ {K V : Type 0} where
         others = λ k above ne. u.others (k - 2) (λ e. ne (omega (arith, is, above, e)));
       }
 
-  pub puts-write : (old : Slab (Row K V)) (n : ℕ) (was row : Row K V) → 2 ≤ n → row_at old n ≡ Some was → Puts old (with_value old (n - 2) row) n (Some row)
-  puts-write old n was row above is = record {
-    at = get_or-set_same old.slots (n - 2) (Some row) None within;
-    others = λ k up ne. get_or-set_other old.slots (n - 2) (k - 2) (Some row) None (λ e. ne (omega (arith, above, up, e)));
+  -- a row is overwritten
+  pub write-updates : (old : Slab (Row K V)) (key : ℕ) (was row : Row K V) → get old key ≡ Some was → Updates old (with_value old key row) key (Some row)
+  write-updates old key was row is = record {
+    changed = get_or-set_same old.slots key (Some row) None within;
+    others = λ other ne. get_or-set_other old.slots key other (Some row) None ne;
   }
     where
-      beyond : length old.slots ≤ n - 2 → ⊥
-      beyond past = let none : row_at old n ≡ None = get_or_past old.slots (n - 2) None past in let both : None ≡ Some was = sym none ∙ is in cc
+      beyond : length old.slots ≤ key → ⊥
+      beyond past = let none : get old key ≡ None = get_or_past old.slots key None past in let both : None ≡ Some was = sym none ∙ is in cc
 
-      within : n - 2 < length old.slots
-      within = ⊎_elim (λ t. t) (λ past. absurd (beyond past)) (cases_lt (n - 2) (length old.slots))
+      within : key < length old.slots
+      within = ⊎_elim (λ t. t) (λ past. absurd (beyond past)) (cases_lt key (length old.slots))
+
+  pub puts-write : (old : Slab (Row K V)) (n : ℕ) (was row : Row K V) → 2 ≤ n → row_at old n ≡ Some was → Puts old (with_value old (n - 2) row) n (Some row)
+  puts-write old n was row above is = puts-update old (with_value old (n - 2) row) n (n - 2) (Some row) (omega (arith, above)) (write-updates old (n - 2) was row is)
 
   -- the rows of an order without this number stay the same
   pub kept-without : (old new : Slab (Row K V)) (l : RowIndex) (n : ℕ) (row : Option (Row K V)) (ks : List ℕ) → Puts old new n row → IsAbsent n ks → ((k : ℕ) → IsAmong k ks → 2 ≤ k)
@@ -119,6 +140,12 @@ module _ {K V : Type 0} where
         let e : row ≡ s.0 = cc in
         ap (λ x. x.hash) e ∙ s.2 ∙ t.hashed k r.0 (linked k q) r.1 ∙ sym (hashes k);
   }
+
+  -- every row and every number stays
+  pub tied-grown : (old new : Slab (Row K V)) (l m : RowIndex) → IsTied old l → ((key : ℕ) → get new key ≡ get old key) → admitted_of m ≡ admitted_of l → waiting_of m ≡ waiting_of l
+      → ((k : ℕ) → hash_at m k ≡ hash_at l k) → IsTied new m
+  tied-grown old new l m t same admitted waiting hashes =
+      tied-kept old new l m t (λ k q. ⊎_elim (λ s. inl (subst (IsAmong k) admitted s)) (λ s. inr (subst (IsAmong k) waiting s)) q) hashes (λ k r q is. (r, same (k - 2) ∙ is, refl))
 
   -- an access to a row: its content changes, and a resident row becomes the last one
   module _ (old new : Slab (Row K V)) (l m : RowIndex) (t : IsTied old l) (n : ℕ) (r : Row K V) (change : Row K V → Row K V) (is : row_at old n ≡ Some r)

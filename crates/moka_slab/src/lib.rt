@@ -2,4 +2,5 @@
 #![tactic(auto)]
 
 mod lookup;
+mod slab_row;
 pub mod slab_rows;

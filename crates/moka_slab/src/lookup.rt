@@ -31,7 +31,7 @@ pub(crate) fn find_row<K: Eq, V>(
     let mut at = rows.first(hash);
     while let Some(number) = at {
         let row = rows.read_counted(number, reads);
-        if *row.key == *key {
+        if **row.key() == *key {
             return Some(number);
         }
         at = rows.next_in_chain(number);

@@ -176,9 +176,19 @@ impl<K: Hash + Drop, V: Clone, C: CacheTypes<K, V>, R: RowStore<K, V>> State<K, 
         self.turns.has_open(hash, kind, key)
     }
 
-    // Waits for the open turn of a key and a kind, or opens one, after a lookup that found no
-    // acceptable value. Fails with `TurnIsOpen` if it would have to wait and may not.
-    pub(crate) fn begin_turn(
+    /// Waits for the open turn of a key and a kind, or opens one, given the key's hash, as
+    /// [`State::hash`] returns it. The key is neither hashed nor looked up among the entries.
+    ///
+    /// This is what a begin does after a lookup that found no acceptable value, such as
+    /// [`State::acceptable_entry`].
+    ///
+    /// # Errors
+    ///
+    /// As [`State::begin`]. Also:
+    ///
+    /// - `TurnIsOpen`: it would have to wait, and `may_wait` is false.
+    #[doc(hidden)]
+    pub fn begin_turn(
         &mut self,
         key: Arc<K>,
         hash: u64,

@@ -66,7 +66,7 @@ fn find_live<K: Eq + Drop, V: Clone, R: RowStore<K, V>>(
         return Ok(None);
     };
     let entry = table.entry(number)?;
-    match clone_if(&table.row(number).value, keep) {
+    match clone_if(table.row(number).value, keep) {
         Ok(saved) => Ok(Some(Shown {
             number,
             entry,

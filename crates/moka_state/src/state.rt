@@ -427,7 +427,7 @@ impl<K: Hash + Drop, V: Clone, C: CacheTypes<K, V>, R: RowStore<K, V>> State<K, 
             (Counted result) }
         ensures stands { ⟦<C as StateView<K, V>>⟧.follows self.now WeightedSize self.now }
     {
-        self.table.weight().min(u128::from(u64::MAX)) as u64
+        self.table.weight()
     }
 
     /// Returns the name of the cache, if it has one.

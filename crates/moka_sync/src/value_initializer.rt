@@ -259,7 +259,7 @@ impl<K: Hash + Drop, V: Clone, C: CacheTypes<K, V>, W: Wait> Cache<K, V, C, W> {
     }
 
     // Does what `ask` does, for a key that is not shared yet. Looks it up, and if it has no live value
-    // shares it and begins, all under one lock and at one moment.
+    // shares it and begins, all under one lock, at one moment and with one hash of the key.
     pub(crate) fn ask_first(
         &self,
         key: K,
@@ -269,12 +269,19 @@ impl<K: Hash + Drop, V: Clone, C: CacheTypes<K, V>, W: Wait> Cache<K, V, C, W> {
         ensures { IfOk result (HoldsOfJoined (IsGivenTo C.keeps kind key) (IsTurnFor kind key)) }
     {
         let mut locked = self.lock();
-        let now = locked.moment();
-        if let Some(entry) = locked.find_acceptable_at(&key, none_like(|_: &V| false), now)? {
+        let state = &mut *locked;
+        let now = state.moment();
+        let hash = state.hash(&key);
+        let none = none_like(|_: &V| false);
+        let found = state.find_acceptable_with_hash(&key, hash, none, now)?;
+        if let Some(entry) = found {
             return Ok(Joined::Value(Answer::Entry(entry)));
         }
         let key = self.share(key)?;
-        let begun = locked.begin_at(&key, kind, &mut none_like(|_: &V| false), now);
+        let Ok(shared) = key.clone() else {
+            return Err(Refused::OutOfMemory);
+        };
+        let begun = state.begin_missed(shared, hash, kind, now);
         drop(unlock(locked));
         let ticket = match begun? {
             Begun::Found(entry) => return Ok(Joined::Value(Answer::Entry(entry))),

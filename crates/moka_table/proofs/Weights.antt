@@ -18,6 +18,11 @@ pub weight_in-le : (order : Order) (weights : Weights) → weight_in order weigh
 weight_in-le Admitted weights = omega arith
 weight_in-le Waiting weights = omega arith
 
+-- and if both are below a bound, so is it
+pub weight_in-below : (bound : ℕ) (order : Order) (weights : Weights) → weights.admitted < bound → weights.waiting < bound → weight_in order weights < bound
+weight_in-below bound Admitted weights a w = a
+weight_in-below bound Waiting weights a w = w
+
 module _ {K V : Type 0} where
   -- n rows with weights below 2^32 weigh at most n * 2^32 in total
   pub total-light : (rows : List (ℕ × Row K V)) → AllByRecursion (λ p. weight_of p < 2 ^ 32) rows → total weight_of rows ≤ length rows * (2 ^ 32)

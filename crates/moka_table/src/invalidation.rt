@@ -120,7 +120,7 @@ fn hide_if<K: Eq + Drop, V: Drop, R: RowStore<K, V>, P: Predicate<K, V>>(
     ensures room { table.old.room ≤ table.new.room }
 {
     let row = table.row(number);
-    if predicate.holds(&row.key, &row.value) {
+    if predicate.holds(row.key, row.value) {
         table.hide(number);
     }
 }

@@ -59,7 +59,7 @@ impl<K: Eq + Drop, V: Clone, R: RowStore<K, V>> Table<K, V, R> {
             replace_if.old replace_if.new }
     {
         let number = self.find_live(key, hash, now)?;
-        if asks_to_replace(&self.row(number).value, replace_if) {
+        if asks_to_replace(self.row(number).value, replace_if) {
             return None;
         }
         Some(number)

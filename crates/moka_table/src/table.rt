@@ -11,10 +11,11 @@ ghost use Rattle.moka_table.specs.Table.{Contents, entries, weight_of, weight_in
 use crate::into_arc::UnusedKey;
 use moka_deferred::deferred::Deferred;
 use moka_model::notification::{Notice, RemovalCause};
-use moka_rows::rows::{Access, EntryInfo, Order, Previous, Row, RowId, RowStore};
+use moka_rows::rows::{Access, EntryInfo, Order, Previous, Row, RowId, RowRef, RowStore};
 use std::alloc::{AllocError, Global};
 use std::collections::VecDeque;
 use std::marker::Model;
+use std::mem;
 use std::sync::Arc;
 
 /// Where the row of a key is.
@@ -29,8 +30,8 @@ pub enum Lookup<K> {
 /// The total weight of the rows of each order.
 #[derive(Clone, Copy)]
 struct Weights {
-    admitted: u128,
-    waiting: u128,
+    admitted: u64,
+    waiting: u64,
 }
 
 impl Weights {
@@ -38,7 +39,7 @@ impl Weights {
     #[inline(always)]
     fn with_weight(self, order: Order, before: u32, after: u32) -> Weights
         requires before { before ≤ weight_in order self }
-        requires fits { weight_in order self + after < 2 ^ 128 }
+        requires fits { weight_in order self + after < 2 ^ 64 }
         ensures changed { weight_in order result + before ≡ weight_in order self + after }
         ensures others { weight_in (other order) result ≡ weight_in (other order) self }
     {
@@ -47,11 +48,11 @@ impl Weights {
         }
         match order {
             Order::Admitted => Weights {
-                admitted: self.admitted - u128::from(before) + u128::from(after),
+                admitted: self.admitted - u64::from(before) + u64::from(after),
                 ..self
             },
             Order::Waiting => Weights {
-                waiting: self.waiting - u128::from(before) + u128::from(after),
+                waiting: self.waiting - u64::from(before) + u64::from(after),
                 ..self
             },
         }
@@ -73,8 +74,11 @@ pub struct Table<K: Eq + Drop, V: Drop, R: RowStore<K, V>> {
     pub(crate) unused_key: Deferred<UnusedKey<K>>,
 }
 
-/// For how many rows room is made at once when there may be none.
+/// For how many rows room is made at once, if there is none.
 const AT_ONCE: usize = 16;
+
+/// For how many rows room is counted, at most. After as many writes it is counted again.
+const AT_MOST: usize = 64;
 
 impl<K: Eq + Drop, V: Drop, R: RowStore<K, V>> Model for Table<K, V, R> {
     ghost Value = { Contents K V };
@@ -180,9 +184,9 @@ impl<K: Eq + Drop, V: Drop, R: RowStore<K, V>> Table<K, V, R> {
 
     /// Returns the row with this number.
     #[inline(always)]
-    pub fn row(&self, number: RowId) -> &Row<K, V>
+    pub fn row(&self, number: RowId) -> RowRef<'_, K, V>
         requires { IsSome (row_under number (entries self.now)) }
-        ensures { row_under number (entries self.now) ≡ Some result.now }
+        ensures { row_under number (entries self.now) ≡ Some result }
     {
         self.rows.row(number)
     }
@@ -223,7 +227,7 @@ impl<K: Eq + Drop, V: Drop, R: RowStore<K, V>> Table<K, V, R> {
 
     /// Returns the total weight of the resident rows. Takes constant time.
     #[inline(always)]
-    pub fn admitted_weight(&self) -> u128
+    pub fn admitted_weight(&self) -> u64
         ensures { result ≡ total weight_of self.now.admitted }
     {
         self.weights.admitted
@@ -231,9 +235,10 @@ impl<K: Eq + Drop, V: Drop, R: RowStore<K, V>> Table<K, V, R> {
 
     /// Returns the total weight of all rows. Takes constant time.
     #[inline(always)]
-    pub fn weight(&self) -> u128
+    pub fn weight(&self) -> u64
         ensures { result ≡ total weight_of (entries self.now) }
     {
+        self.rows.numbers_differ();
         self.weights.admitted + self.weights.waiting
     }
 
@@ -302,6 +307,36 @@ impl<K: Eq + Drop, V: Drop, R: RowStore<K, V>> Table<K, V, R> {
         Ok(())
     }
 
+    /// Counts the room that there is, and makes more if there is none. All rows and notices stay as
+    /// they were, also if it fails. An empty queue of notices begins anew.
+    ///
+    /// # Errors
+    ///
+    /// - `AllocError`: an allocation failed, or the store cannot number more rows.
+    #[inline(never)]
+    fn look_for_room(&mut self) -> Result<(), AllocError>
+        requires { self.old.room ≡ 0 }
+        ensures room { OnOk result (0 < self.new.room) }
+        ensures same { SameRows self.old self.new }
+        ensures may_hide { self.new.may_hide ≡ self.old.may_hide }
+    {
+        if self.notices.is_empty() {
+            self.begin_notices_anew();
+        }
+        let stored = self.len() + self.notice_count();
+        let places = self.notices.capacity() - stored;
+        let room = self.rows.room().min(places);
+        if room == 0 {
+            // A queue that begins at the front of its memory doubles it when it grows.
+            if places == 0 {
+                self.begin_notices_anew();
+            }
+            return self.reserve(AT_ONCE);
+        }
+        self.sure = room.min(AT_MOST);
+        Ok(())
+    }
+
     /// Makes room for a write of a key, and returns where its row is. All rows and notices stay as
     /// they were, also if it fails.
     ///
@@ -317,7 +352,7 @@ impl<K: Eq + Drop, V: Drop, R: RowStore<K, V>> Table<K, V, R> {
         ensures may_hide { self.new.may_hide ≡ self.old.may_hide }
     {
         if self.sure == 0 {
-            self.reserve(AT_ONCE)?;
+            self.look_for_room()?;
         }
         match self.find(key, hash) {
             None => Ok(Lookup::Absent),
@@ -340,7 +375,8 @@ impl<K: Eq + Drop, V: Drop, R: RowStore<K, V>> Table<K, V, R> {
         ensures room { self.old.room ≤ self.new.room + 1 }
         ensures may_hide { self.new.may_hide ≡ self.old.may_hide }
     {
-        self.weights.waiting += u128::from(row.info().policy_weight);
+        self.rows.numbers_differ();
+        self.weights.waiting += u64::from(row.info().policy_weight);
         self.rows.add(row);
         self.sure -= 1;
     }
@@ -373,6 +409,7 @@ impl<K: Eq + Drop, V: Drop, R: RowStore<K, V>> Table<K, V, R> {
             (λ row. cause_at RemovalCause.Replaced row.info info.last_modified) self.old self.new }
         ensures may_hide { self.new.may_hide ≡ self.old.may_hide }
     {
+        self.rows.numbers_differ();
         let before = self.rows.overwrite(number, value, info);
         let (was, weight) = (before.info, info.policy_weight);
         self.weights = self
@@ -445,7 +482,8 @@ impl<K: Eq + Drop, V: Drop, R: RowStore<K, V>> Table<K, V, R> {
         ensures room { self.old.room ≤ self.new.room }
         ensures may_hide { self.new.may_hide ≡ self.old.may_hide }
     {
-        let weight = u128::from(self.rows.row(number).info().policy_weight);
+        self.rows.numbers_differ();
+        let weight = u64::from(self.rows.row(number).info().policy_weight);
         self.rows.admit(number);
         self.weights.waiting -= weight;
         self.weights.admitted += weight;
@@ -501,5 +539,15 @@ impl<K: Eq + Drop, V: Drop, R: RowStore<K, V>> Table<K, V, R> {
         ensures may_hide { self.new.may_hide ≡ self.old.may_hide }
     {
         self.notices.pop_front()
+    }
+
+    /// Moves the notices to the front of their memory. Does not allocate.
+    #[inline(never)]
+    fn begin_notices_anew(&mut self)
+        ensures { self.new ≡ self.old }
+    {
+        let alloc = *self.notices.allocator();
+        let notices = mem::replace(&mut self.notices, VecDeque::new(alloc));
+        self.notices = VecDeque::from_vec(notices.into_vec());
     }
 }

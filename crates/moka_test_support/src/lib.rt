@@ -6,6 +6,7 @@
 
 pub mod counted;
 pub mod counted_calls;
+pub mod counted_forms;
 pub mod counted_lookups;
 pub mod counts;
 mod macros;

@@ -5,7 +5,7 @@ ghost use Rattle.moka_state.specs.Rows.{row_under};
 use crate::subject::room;
 use moka_state::list_rows::ListRows;
 use moka_state::packed::PackedEntryInfo;
-use moka_state::rows::{Access, EntryInfo, Row, RowId, RowStore};
+use moka_state::rows::{Access, EntryInfo, Row, RowId, RowRef, RowStore};
 use std::alloc::{AllocError, Global};
 use std::process::Abort;
 use std::sync::Arc;
@@ -110,8 +110,8 @@ fn row_of(keys: &[(RowId, u64)], number: Option<RowId>) -> Reply {
 }
 
 /// Returns the value of a row with its moments.
-fn value_of(row: &Row<u64, &'static str>) -> Reply {
-    Reply::Value(row.value, row.info())
+fn value_of(row: RowRef<'_, u64, &'static str>) -> Reply {
+    Reply::Value(*row.value, row.info())
 }
 
 /// Does something with the row of a number.
@@ -133,7 +133,7 @@ fn use_row<R: RowStore<u64, &'static str>>(
             Reply::Done
         }
         Use::Overwrite(value) => Reply::Previous(rows.overwrite(number, value, LATER).value),
-        Use::Remove => value_of(&rows.remove(number).0),
+        Use::Remove => value_of(rows.remove(number).0.lend()),
     }
 }
 

@@ -19,15 +19,15 @@ pub hash-requires : goal.hash-requires
 hash-requires g c = first-stored c.args.table.now c.args.number c.requires.first
 
 pub wins-requires : goal.wins-requires
-wins-requires g c = omega (arith, (rw c.info-weight.ensures at c.victims-count.ensures.count), front-le weight_of c.args.capacity c.row.result.now.info.policy_weight c.args.table.now.admitted)
+wins-requires g c = omega (arith, (rw c.info-weight.ensures at c.victims-count.ensures.count), front-le weight_of c.args.capacity c.row.result.info.policy_weight c.args.table.now.admitted)
 
 pub evict_first-requires : goal.evict_first-requires
-evict_first-requires g c = omega (arith, (rw c.info-weight.ensures at c.victims-count.ensures.count), front-le weight_of c.args.capacity c.row.result.now.info.policy_weight c.args.table.now.admitted)
+evict_first-requires g c = omega (arith, (rw c.info-weight.ensures at c.victims-count.ensures.count), front-le weight_of c.args.capacity c.row.result.info.policy_weight c.args.table.now.admitted)
 
 pub returns-else-not-take_budget-clause-judged : goal.returns-else-not-take_budget-clause-judged
 returns-else-not-take_budget-clause-judged g c =
     let old = c.args.table.now in
-    let row = c.row.result.now in
+    let row = c.row.result in
     let count = rw c.info-weight.ensures at c.victims-count.ensures.count in
     let alone = rw c.info-weight.ensures at (sym c.fits.ensures ∙ c.if-not-fits.false) in
     let yet = spent c.args.limit.now c.take_budget.new.limit c.victims-count.result c.take_budget.result c.take_budget.ensures.lets c.take_budget.ensures.rest c.if-not-take_budget.false in
@@ -48,7 +48,7 @@ returns-else-not-take_budget-clause-judged g c =
 pub returns-then-not-take_budget-clause-judged : goal.returns-then-not-take_budget-clause-judged
 returns-then-not-take_budget-clause-judged g c =
     let old = c.args.table.now in
-    let row = c.row.result.now in
+    let row = c.row.result in
     let count = rw c.info-weight.ensures at c.victims-count.ensures.count in
     let alone = rw c.info-weight.ensures at (sym c.fits.ensures ∙ c.if-not-fits.false) in
     let stops = unspent c.args.limit.now c.take_budget.new.limit c.victims-count.result c.take_budget.result c.take_budget.ensures.lets c.take_budget.ensures.rest c.if-not-take_budget.true in
@@ -64,7 +64,7 @@ returns-then-not-take_budget-clause-judged g c =
 pub returns-then-not-fits-clause-judged : goal.returns-then-not-fits-clause-judged
 returns-then-not-fits-clause-judged g c =
     let old = c.args.table.now in
-    let row = c.row.result.now in
+    let row = c.row.result in
     judges-by (is_lru c.args.policy) (g.F.FrequencySource.count c.args.source.now) c.args.capacity old c.drop_first.new.table c.args.number row c.args.limit.now c.drop_first.new.limit c.drop_first.result c.requires.apart c.requires.first c.row.ensures
     (λ rest. dropping old.admitted (c.args.number, row) rest)
     (λ rest. drops-heavy (is_lru c.args.policy) (g.F.FrequencySource.count c.args.source.now) c.args.capacity old.admitted c.args.number row rest (rw c.info-weight.ensures at (sym c.fits.ensures ∙ c.if-not-fits.true)))
@@ -73,7 +73,7 @@ returns-then-not-fits-clause-judged g c =
 pub returns-else-wins-clause-judged : goal.returns-else-wins-clause-judged
 returns-else-wins-clause-judged g c =
     let old = c.args.table.now in
-    let row = c.row.result.now in
+    let row = c.row.result in
     let count = rw c.info-weight.ensures at c.victims-count.ensures.count in
     let alone = rw c.info-weight.ensures at (sym c.fits.ensures ∙ c.if-not-fits.false) in
     judges-by (is_lru c.args.policy) (g.F.FrequencySource.count c.args.source.now) c.args.capacity old c.drop_first-else-wins.new.table c.args.number row c.args.limit.now c.drop_first-else-wins.new.limit c.drop_first-else-wins.result c.requires.apart c.requires.first c.row.ensures
@@ -86,7 +86,7 @@ returns-else-wins-clause-judged g c =
 
 pub returns-else-not-take_budget-clause-visited : goal.returns-else-not-take_budget-clause-visited
 returns-else-not-take_budget-clause-visited g c =
-    let alone = visits-alone (is_lru c.args.policy) c.args.capacity c.args.table.now c.args.number c.row.result.now c.requires.apart c.requires.first c.row.ensures
+    let alone = visits-alone (is_lru c.args.policy) c.args.capacity c.args.table.now c.args.number c.row.result c.requires.apart c.requires.first c.row.ensures
     (rw c.info-weight.ensures at (sym c.fits.ensures ∙ c.if-not-fits.false)) c.victims-count.result (rw c.info-weight.ensures at c.victims-count.ensures.count) in
     elim c.if-count-eq0.branch [
       | then-count-eq0 w ↦ omega (arith, alone, (rw c.info-weight.ensures at c.victims-count.ensures.visited))
@@ -95,7 +95,7 @@ returns-else-not-take_budget-clause-visited g c =
 
 pub returns-then-not-take_budget-clause-visited : goal.returns-then-not-take_budget-clause-visited
 returns-then-not-take_budget-clause-visited g c =
-    let alone = visits-alone (is_lru c.args.policy) c.args.capacity c.args.table.now c.args.number c.row.result.now c.requires.apart c.requires.first c.row.ensures
+    let alone = visits-alone (is_lru c.args.policy) c.args.capacity c.args.table.now c.args.number c.row.result c.requires.apart c.requires.first c.row.ensures
     (rw c.info-weight.ensures at (sym c.fits.ensures ∙ c.if-not-fits.false)) c.victims-count.result (rw c.info-weight.ensures at c.victims-count.ensures.count) in
     elim c.if-count-eq0.branch [
       | then-count-eq0 w ↦ omega (arith, alone, (rw c.info-weight.ensures at c.victims-count.ensures.visited))
@@ -104,7 +104,7 @@ returns-then-not-take_budget-clause-visited g c =
 
 pub returns-else-wins-clause-visited : goal.returns-else-wins-clause-visited
 returns-else-wins-clause-visited g c =
-    let alone = visits-alone (is_lru c.args.policy) c.args.capacity c.args.table.now c.args.number c.row.result.now c.requires.apart c.requires.first c.row.ensures
+    let alone = visits-alone (is_lru c.args.policy) c.args.capacity c.args.table.now c.args.number c.row.result c.requires.apart c.requires.first c.row.ensures
     (rw c.info-weight.ensures at (sym c.fits.ensures ∙ c.if-not-fits.false)) c.victims-count.result (rw c.info-weight.ensures at c.victims-count.ensures.count) in
     elim c.if-count-eq0.branch [
       | then-count-eq0 w ↦ omega (arith, alone, (rw c.info-weight.ensures at c.victims-count.ensures.visited))

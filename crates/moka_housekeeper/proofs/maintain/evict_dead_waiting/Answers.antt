@@ -40,50 +40,50 @@ pub returns-then-not-take_budget-clause-swept : goal.returns-then-not-take_budge
 returns-then-not-take_budget-clause-swept g c =
     let table = c.loop-cursor.table in
     let was = rw c.in-Some.is at c.loop-cursor.invariant.sweeps in
-    let here = at-waiting table.admitted table.waiting c.in-Some.number was.0 was.1 c.row.result.now c.next-cursor.result c.next-cursor.ensures.apart c.row.ensures c.next-cursor.ensures.behind was.2.walks in
+    let here = at-waiting table.admitted table.waiting c.in-Some.number was.0 was.1 c.row.result c.next-cursor.result c.next-cursor.ensures.apart c.row.ensures c.next-cursor.ensures.behind was.2.walks in
     let gone = sym (ap (λ (i : EntryInfo). i.is_hidden || has_come i.deadline c.args.now) c.info-info.ensures) ∙ sym c.is_dead.ensures ∙ c.if-is_dead.true in
     let stops = unspent c.loop-cursor.limit c.take_budget.new.limit 1 c.take_budget.result c.take_budget.ensures.lets c.take_budget.ensures.rest c.if-not-take_budget.true in
     resumes-stops c.args.now (waiting_parts c.args.now c.args.table.now.admitted) (λ l. queues c.args.table.now.admitted l) (are-waiting c.args.now c.args.table.now.admitted) c.args.limit.now (waiting_parts c.args.now c.args.table.now.admitted [] c.args.table.now.waiting) c.args.table.now c.loop-cursor.limit table
-    was.0 was.1 here.1 (c.in-Some.number, c.row.result.now) here.2.rest_is was.3 gone stops.0 c.take_budget.new.limit stops.1
+    was.0 was.1 here.1 (c.in-Some.number, c.row.result) here.2.rest_is was.3 gone stops.0 c.take_budget.new.limit stops.1
 
 pub returns-then-not-take_budget-clause-visited : goal.returns-then-not-take_budget-clause-visited
 returns-then-not-take_budget-clause-visited g c =
     let table = c.loop-cursor.table in
     let was = rw c.in-Some.is at c.loop-cursor.invariant.sweeps in
-    let here = at-waiting table.admitted table.waiting c.in-Some.number was.0 was.1 c.row.result.now c.next-cursor.result c.next-cursor.ensures.apart c.row.ensures c.next-cursor.ensures.behind was.2.walks in
-    omega (arith, was.4, c.next-cursor.ensures.visited, one_more-le c.loop-cursor.visits, rest-shorter table.waiting c.in-Some.number was.0 was.1 was.2 c.row.result.now c.next-cursor.result here.1 here.2)
+    let here = at-waiting table.admitted table.waiting c.in-Some.number was.0 was.1 c.row.result c.next-cursor.result c.next-cursor.ensures.apart c.row.ensures c.next-cursor.ensures.behind was.2.walks in
+    omega (arith, was.4, c.next-cursor.ensures.visited, one_more-le c.loop-cursor.visits, rest-shorter table.waiting c.in-Some.number was.0 was.1 was.2 c.row.result c.next-cursor.result here.1 here.2)
 
 pub loop-cursor-smaller-then-is_dead : goal.loop-cursor-smaller-then-is_dead
 loop-cursor-smaller-then-is_dead g c =
     let table = c.loop-cursor.table in
     let was = rw c.in-Some.is at c.loop-cursor.invariant.sweeps in
-    let here = at-waiting table.admitted table.waiting c.in-Some.number was.0 was.1 c.row.result.now c.next-cursor.result c.next-cursor.ensures.apart c.row.ensures c.next-cursor.ensures.behind was.2.walks in
+    let here = at-waiting table.admitted table.waiting c.in-Some.number was.0 was.1 c.row.result c.next-cursor.result c.next-cursor.ensures.apart c.row.ensures c.next-cursor.ensures.behind was.2.walks in
     let new = c.evict.new.self in
-    let left = left-waiting c.in-Some.number c.row.result.now c.cause.result table new c.evict.ensures.rows c.evict.ensures.notices here.0 here.2.stands in
-    let on = sweeps-over_dead table.waiting c.in-Some.number was.0 was.1 was.2 c.row.result.now c.next-cursor.result here.1 here.2 new.waiting left.1 in
-    rw (on.ahead, c.in-Some.is, was.2.ahead) (omega (arith, rest-shorter table.waiting c.in-Some.number was.0 was.1 was.2 c.row.result.now c.next-cursor.result here.1 here.2))
+    let left = left-waiting c.in-Some.number c.row.result c.cause.result table new c.evict.ensures.rows c.evict.ensures.notices here.0 here.2.stands in
+    let on = sweeps-over_dead table.waiting c.in-Some.number was.0 was.1 was.2 c.row.result c.next-cursor.result here.1 here.2 new.waiting left.1 in
+    rw (on.ahead, c.in-Some.is, was.2.ahead) (omega (arith, rest-shorter table.waiting c.in-Some.number was.0 was.1 was.2 c.row.result c.next-cursor.result here.1 here.2))
 
 pub loop-cursor-preserved-then-is_dead : goal.loop-cursor-preserved-then-is_dead
 loop-cursor-preserved-then-is_dead g c =
     let table = c.loop-cursor.table in
     let was = rw c.in-Some.is at c.loop-cursor.invariant.sweeps in
-    let here = at-waiting table.admitted table.waiting c.in-Some.number was.0 was.1 c.row.result.now c.next-cursor.result c.next-cursor.ensures.apart c.row.ensures c.next-cursor.ensures.behind was.2.walks in
+    let here = at-waiting table.admitted table.waiting c.in-Some.number was.0 was.1 c.row.result c.next-cursor.result c.next-cursor.ensures.apart c.row.ensures c.next-cursor.ensures.behind was.2.walks in
     let new = c.evict.new.self in
-    let left = left-waiting c.in-Some.number c.row.result.now c.cause.result table new c.evict.ensures.rows c.evict.ensures.notices here.0 here.2.stands in
-    let noticed = left.2 ∙ ap (λ it. table.notices ++ notice_for it (c.in-Some.number, c.row.result.now) ∷ []) (c.cause.ensures ∙ cause-dead c.info-info.result c.args.now ∙ ap (λ (i : EntryInfo). cond i.is_hidden Explicit Expired) c.info-info.ensures) in
+    let left = left-waiting c.in-Some.number c.row.result c.cause.result table new c.evict.ensures.rows c.evict.ensures.notices here.0 here.2.stands in
+    let noticed = left.2 ∙ ap (λ it. table.notices ++ notice_for it (c.in-Some.number, c.row.result) ∷ []) (c.cause.ensures ∙ cause-dead c.info-info.result c.args.now ∙ ap (λ (i : EntryInfo). cond i.is_hidden Explicit Expired) c.info-info.ensures) in
     let gone = sym (ap (λ (i : EntryInfo). i.is_hidden || has_come i.deadline c.args.now) c.info-info.ensures) ∙ sym c.is_dead.ensures ∙ c.if-is_dead.true in
     let yet = spent c.loop-cursor.limit c.take_budget.new.limit 1 c.take_budget.result c.take_budget.ensures.lets c.take_budget.ensures.rest c.if-not-take_budget.false in
-    let stands = queues-are new c.args.table.now.admitted (was.0 ++ here.1) (left.0 ∙ c.loop-cursor.invariant.admitted) (row-left table.waiting c.in-Some.number was.0 was.1 was.2 c.row.result.now c.next-cursor.result here.1 here.2 new.waiting left.1) in
+    let stands = queues-are new c.args.table.now.admitted (was.0 ++ here.1) (left.0 ∙ c.loop-cursor.invariant.admitted) (row-left table.waiting c.in-Some.number was.0 was.1 was.2 c.row.result c.next-cursor.result here.1 here.2 new.waiting left.1) in
     record {
       room = omega arith;
       admitted = left.0 ∙ c.loop-cursor.invariant.admitted;
       sweeps = (
         was.0,
         here.1,
-        sweeps-over_dead table.waiting c.in-Some.number was.0 was.1 was.2 c.row.result.now c.next-cursor.result here.1 here.2 new.waiting left.1,
+        sweeps-over_dead table.waiting c.in-Some.number was.0 was.1 was.2 c.row.result c.next-cursor.result here.1 here.2 new.waiting left.1,
         resumes-dead c.args.now (waiting_parts c.args.now c.args.table.now.admitted) (λ l. queues c.args.table.now.admitted l) (are-waiting c.args.now c.args.table.now.admitted) c.args.limit.now (waiting_parts c.args.now c.args.table.now.admitted [] c.args.table.now.waiting) c.args.table.now c.loop-cursor.limit table
-            was.0 was.1 here.1 (c.in-Some.number, c.row.result.now) here.2.rest_is was.3 gone yet.0 new stands noticed c.take_budget.new.limit yet.1,
-        omega (arith, was.4, c.next-cursor.ensures.visited, one_more-le c.loop-cursor.visits, rest-shorter table.waiting c.in-Some.number was.0 was.1 was.2 c.row.result.now c.next-cursor.result here.1 here.2),
+            was.0 was.1 here.1 (c.in-Some.number, c.row.result) here.2.rest_is was.3 gone yet.0 new stands noticed c.take_budget.new.limit yet.1,
+        omega (arith, was.4, c.next-cursor.ensures.visited, one_more-le c.loop-cursor.visits, rest-shorter table.waiting c.in-Some.number was.0 was.1 was.2 c.row.result c.next-cursor.result here.1 here.2),
       );
     }
 
@@ -91,26 +91,26 @@ pub loop-cursor-smaller : goal.loop-cursor-smaller
 loop-cursor-smaller g c =
     let table = c.loop-cursor.table in
     let was = rw c.in-Some.is at c.loop-cursor.invariant.sweeps in
-    let here = at-waiting table.admitted table.waiting c.in-Some.number was.0 was.1 c.row.result.now c.next-cursor.result c.next-cursor.ensures.apart c.row.ensures c.next-cursor.ensures.behind was.2.walks in
-    let on = sweeps-over_alive table.waiting c.in-Some.number was.0 was.1 was.2 c.row.result.now c.next-cursor.result here.1 here.2 in
-    rw (on.ahead, c.in-Some.is, was.2.ahead) (omega (arith, rest-shorter table.waiting c.in-Some.number was.0 was.1 was.2 c.row.result.now c.next-cursor.result here.1 here.2))
+    let here = at-waiting table.admitted table.waiting c.in-Some.number was.0 was.1 c.row.result c.next-cursor.result c.next-cursor.ensures.apart c.row.ensures c.next-cursor.ensures.behind was.2.walks in
+    let on = sweeps-over_alive table.waiting c.in-Some.number was.0 was.1 was.2 c.row.result c.next-cursor.result here.1 here.2 in
+    rw (on.ahead, c.in-Some.is, was.2.ahead) (omega (arith, rest-shorter table.waiting c.in-Some.number was.0 was.1 was.2 c.row.result c.next-cursor.result here.1 here.2))
 
 pub loop-cursor-preserved : goal.loop-cursor-preserved
 loop-cursor-preserved g c =
     let table = c.loop-cursor.table in
     let was = rw c.in-Some.is at c.loop-cursor.invariant.sweeps in
-    let here = at-waiting table.admitted table.waiting c.in-Some.number was.0 was.1 c.row.result.now c.next-cursor.result c.next-cursor.ensures.apart c.row.ensures c.next-cursor.ensures.behind was.2.walks in
+    let here = at-waiting table.admitted table.waiting c.in-Some.number was.0 was.1 c.row.result c.next-cursor.result c.next-cursor.ensures.apart c.row.ensures c.next-cursor.ensures.behind was.2.walks in
     let lives = sym (ap (λ (i : EntryInfo). i.is_hidden || has_come i.deadline c.args.now) c.info-info.ensures) ∙ sym c.is_dead.ensures ∙ c.if-is_dead.false in
     record {
       room = c.loop-cursor.invariant.room;
       admitted = c.loop-cursor.invariant.admitted;
       sweeps = (
-        was.0 ++ (c.in-Some.number, c.row.result.now) ∷ [],
+        was.0 ++ (c.in-Some.number, c.row.result) ∷ [],
         here.1,
-        sweeps-over_alive table.waiting c.in-Some.number was.0 was.1 was.2 c.row.result.now c.next-cursor.result here.1 here.2,
+        sweeps-over_alive table.waiting c.in-Some.number was.0 was.1 was.2 c.row.result c.next-cursor.result here.1 here.2,
         resumes-alive c.args.now (waiting_parts c.args.now c.args.table.now.admitted) (λ l. queues c.args.table.now.admitted l) (are-waiting c.args.now c.args.table.now.admitted) c.args.limit.now (waiting_parts c.args.now c.args.table.now.admitted [] c.args.table.now.waiting) c.args.table.now c.loop-cursor.limit table
-            was.0 was.1 here.1 (c.in-Some.number, c.row.result.now) here.2.rest_is was.3 lives,
-        omega (arith, was.4, c.next-cursor.ensures.visited, one_more-le c.loop-cursor.visits, rest-shorter table.waiting c.in-Some.number was.0 was.1 was.2 c.row.result.now c.next-cursor.result here.1 here.2),
+            was.0 was.1 here.1 (c.in-Some.number, c.row.result) here.2.rest_is was.3 lives,
+        omega (arith, was.4, c.next-cursor.ensures.visited, one_more-le c.loop-cursor.visits, rest-shorter table.waiting c.in-Some.number was.0 was.1 was.2 c.row.result c.next-cursor.result here.1 here.2),
       );
     }
 

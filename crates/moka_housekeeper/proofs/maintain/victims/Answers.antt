@@ -29,8 +29,8 @@ row-requires g c =
 pub overflow_sub-weight : goal.overflow_sub-weight
 overflow_sub-weight g c =
     let on = rw c.in-Some.is at c.loop-count.invariant.frees in
-    let here = at-admitted c.args.table.now.admitted c.args.table.now.waiting c.in-Some.number on.0 on.1 c.row.result.now c.next-cursor.result c.next-cursor.ensures.apart c.row.ensures c.next-cursor.ensures.behind on.2.walks in
-    let le = frees-le c.args.capacity c.args.more c.args.table.now.admitted c.loop-count.weight c.loop-count.count on.0 on.1 c.in-Some.number on.2 c.row.result.now c.next-cursor.result here.0 here.1 in
+    let here = at-admitted c.args.table.now.admitted c.args.table.now.waiting c.in-Some.number on.0 on.1 c.row.result c.next-cursor.result c.next-cursor.ensures.apart c.row.ensures c.next-cursor.ensures.behind on.2.walks in
+    let le = frees-le c.args.capacity c.args.more c.args.table.now.admitted c.loop-count.weight c.loop-count.count on.0 on.1 c.in-Some.number on.2 c.row.result c.next-cursor.result here.0 here.1 in
     omega (arith, le, ap (λ (i : EntryInfo). i.policy_weight) c.info.ensures, c.from-weight.ensures)
 
 pub unreachable-requires : goal.unreachable-requires
@@ -42,14 +42,14 @@ unreachable-requires g c =
 pub loop-count-preserved : goal.loop-count-preserved
 loop-count-preserved g c =
     let on = rw c.in-Some.is at c.loop-count.invariant.frees in
-    let here = at-admitted c.args.table.now.admitted c.args.table.now.waiting c.in-Some.number on.0 on.1 c.row.result.now c.next-cursor.result c.next-cursor.ensures.apart c.row.ensures c.next-cursor.ensures.behind on.2.walks in
-    let le = frees-le c.args.capacity c.args.more c.args.table.now.admitted c.loop-count.weight c.loop-count.count on.0 on.1 c.in-Some.number on.2 c.row.result.now c.next-cursor.result here.0 here.1 in
+    let here = at-admitted c.args.table.now.admitted c.args.table.now.waiting c.in-Some.number on.0 on.1 c.row.result c.next-cursor.result c.next-cursor.ensures.apart c.row.ensures c.next-cursor.ensures.behind on.2.walks in
+    let le = frees-le c.args.capacity c.args.more c.args.table.now.admitted c.loop-count.weight c.loop-count.count on.0 on.1 c.in-Some.number on.2 c.row.result c.next-cursor.result here.0 here.1 in
     record {
       visited = omega (arith, c.loop-count.invariant.visited, c.next-cursor.ensures.visited, one_more-le c.loop-count.visits);
       frees = (
-        on.0 ++ (c.in-Some.number, c.row.result.now) ∷ [],
+        on.0 ++ (c.in-Some.number, c.row.result) ∷ [],
         here.0,
-        frees-on c.args.capacity c.args.more c.args.table.now.admitted c.loop-count.weight c.loop-count.count on.0 on.1 c.in-Some.number on.2 c.row.result.now c.next-cursor.result here.0 here.1
+        frees-on c.args.capacity c.args.more c.args.table.now.admitted c.loop-count.weight c.loop-count.count on.0 on.1 c.in-Some.number on.2 c.row.result c.next-cursor.result here.0 here.1
             _ (omega (arith, le, ap (λ (i : EntryInfo). i.policy_weight) c.info.ensures, c.from-weight.ensures)) (sym c.fits.ensures ∙ c.if-fits.false),
       );
     }

@@ -1,4 +1,5 @@
 use Rattle.std.proofs.Common.{sym, ap, ◌∙◌}
+use Rattle.std.specs.Arc.{arc_value}
 use Rattle.moka_slab.proofs.FindLemmas.{sought-first, going, going-fits, sought-next, sought-found, sought-stored, sought-absent, going-reads, going-counted, all-reads, all-counted}
 use Rattle.moka_slab.proofs.lookup.find_row.Goals as goal
 
@@ -14,7 +15,7 @@ read_counted-row-requires-clause-fits g c = going-fits c.args.rows.store.now.row
 pub returns-then-eq-clause-found : goal.returns-then-eq-clause-found
 returns-then-eq-clause-found g c =
     sought-found c.args.rows.store.now.rows c.args.rows.store.now.links c.args.rows.store.now.tied g.K.PartialEq.eq c.args.key.now c.args.hash c.loop-at.reads c.in-Some.number c.read_counted-row.result.now
-    (going c.args.rows.store.now.rows c.args.rows.store.now.links c.args.rows.store.now.tied g.K.PartialEq.eq c.args.key.now c.args.hash c.loop-at.at c.loop-at.reads c.in-Some.number c.in-Some.is c.loop-at.invariant) c.read_counted-row.ensures.row (ap (λ k. g.K.PartialEq.eq k c.args.key.now) (sym c.deref.ensures) ∙ sym c.eq.ensures ∙ c.if-eq.true)
+    (going c.args.rows.store.now.rows c.args.rows.store.now.links c.args.rows.store.now.tied g.K.PartialEq.eq c.args.key.now c.args.hash c.loop-at.at c.loop-at.reads c.in-Some.number c.in-Some.is c.loop-at.invariant) c.read_counted-row.ensures.row (ap (λ k. g.K.PartialEq.eq k c.args.key.now) (sym (c.deref.ensures ∙ ap arc_value c.key.ensures)) ∙ sym c.eq.ensures ∙ c.if-eq.true)
 
 pub returns-then-eq-clause-stored : goal.returns-then-eq-clause-stored
 returns-then-eq-clause-stored g c = sought-stored c.args.rows.store.now.rows c.args.rows.store.now.links c.args.rows.store.now.tied g.K.PartialEq.eq c.args.key.now c.args.hash c.loop-at.reads c.in-Some.number (going c.args.rows.store.now.rows c.args.rows.store.now.links c.args.rows.store.now.tied g.K.PartialEq.eq c.args.key.now c.args.hash c.loop-at.at c.loop-at.reads c.in-Some.number c.in-Some.is c.loop-at.invariant)
@@ -32,7 +33,7 @@ pub loop-at-preserved : goal.loop-at-preserved
 loop-at-preserved g c =
     rw (c.next_in_chain-at.ensures, c.read_counted-row.ensures.counted)
     (sought-next c.args.rows.store.now.rows c.args.rows.store.now.links c.args.rows.store.now.tied g.K.PartialEq.eq c.args.key.now c.args.hash c.loop-at.reads c.in-Some.number c.read_counted-row.result.now
-    (going c.args.rows.store.now.rows c.args.rows.store.now.links c.args.rows.store.now.tied g.K.PartialEq.eq c.args.key.now c.args.hash c.loop-at.at c.loop-at.reads c.in-Some.number c.in-Some.is c.loop-at.invariant) c.read_counted-row.ensures.row (ap (λ k. g.K.PartialEq.eq k c.args.key.now) (sym c.deref.ensures) ∙ sym c.eq.ensures ∙ c.if-eq.false))
+    (going c.args.rows.store.now.rows c.args.rows.store.now.links c.args.rows.store.now.tied g.K.PartialEq.eq c.args.key.now c.args.hash c.loop-at.at c.loop-at.reads c.in-Some.number c.in-Some.is c.loop-at.invariant) c.read_counted-row.ensures.row (ap (λ k. g.K.PartialEq.eq k c.args.key.now) (sym (c.deref.ensures ∙ ap arc_value c.key.ensures)) ∙ sym c.eq.ensures ∙ c.if-eq.false))
 
 pub returns-clause-absent : goal.returns-clause-absent
 returns-clause-absent g c = sought-absent c.args.rows.store.now.rows c.args.rows.store.now.links c.args.rows.store.now.tied g.K.PartialEq.eq c.args.key.now c.args.hash c.loop-at.reads (rw c.in_default.is at c.loop-at.invariant)

@@ -26,13 +26,13 @@ invariant_of-self g c =
     record {
       listed = λ whole.
           let done = c.enlist-self.ensures.listed whole in
-          let same = admitted-read n admitted waiting row.0 c.row.result.now (admitted_in c.admit.new.self) (waiting_in c.admit.new.self) is c.row.ensures.apart c.row.ensures.row in
-          (rw c.info-deadline.ensures at done.1) ∙ ap (λ l. l ++ deadline_in n c.row.result.now.info.deadline) (c.args.self.now.listed done.0)
+          let same = admitted-read n admitted waiting row.0 c.row.result (admitted_in c.admit.new.self) (waiting_in c.admit.new.self) is c.row.ensures.apart c.row.ensures.row in
+          (rw c.info-deadline.ensures at done.1) ∙ ap (λ l. l ++ deadline_in n c.row.result.info.deadline) (c.args.self.now.listed done.0)
           ∙ ap (λ (r : Row _ _). deadlines_in admitted ++ deadline_in n r.info.deadline) same
           ∙ sym (deadlines-push admitted n row.0) ∙ ap deadlines_in (sym is);
       noted = noted;
       whole = λ none.
-          let read = each-at P n c.row.result.now (admitted_in c.admit.new.self ++ waiting_in c.admit.new.self) noted c.row.ensures.row in
+          let read = each-at P n c.row.result (admitted_in c.admit.new.self ++ waiting_in c.admit.new.self) noted c.row.ensures.row in
           c.enlist-self.ensures.whole (c.args.self.now.whole none) (stands-none n _ _ _ _ (ap (λ info. info.deadline) c.info-deadline.ensures ∙ read.0 none));
       begun = c.args.self.now.begun;
     }

@@ -6,7 +6,7 @@ use Rattle.moka_housekeeper.proofs.housekeeper.Housekeeper.hit.Goals as goal
 
 pub returns-then-is_plain-clause-used : goal.returns-then-is_plain-clause-used
 returns-then-is_plain-clause-used g c =
-    let row = c.row.result.now in
+    let row = c.row.result in
     let plain = rw c.info.ensures at (c.is_plain.ensures c.if-is_plain.true) in
     rw c.row.ensures (
       plain_access c.args.now row,

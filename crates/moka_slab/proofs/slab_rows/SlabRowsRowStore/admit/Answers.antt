@@ -10,6 +10,7 @@ admit-requires g c = inr (waiting-found c.args.self.now.rows c.args.self.now.lin
 pub invariant_of-self : goal.invariant_of-self
 invariant_of-self g c = record {
   tied = admitted-tied c.args.self.now.rows c.args.self.now.links c.admit.new.self c.args.self.now.tied c.args.number (waiting-found c.args.self.now.rows c.args.self.now.links c.args.number c.requires) c.admit.ensures.admitted c.admit.ensures.waiting c.admit.ensures.preserves.hash;
+  lived = c.args.self.now.lived;
 }
 
 pub returns-clause-waiting : goal.returns-clause-waiting

@@ -114,7 +114,7 @@ returns-in_default-copy_of_live g c = rw c.refusal.ensures (record {
       let sound = sound-turns eq laws given steps there.legal in
       let key = (turn_name c.args.turn).key in
       let hash = c.requires.found ∙ hashed in
-      let row = c.row-row.result.now in
+      let row = c.row-row.result in
       let dead = row.info.is_hidden || has_come row.info.deadline c.max-now.result in
       let dated = of-row (λ r. IsDated s.housekeeper.lives r.info) c.in-Some.number _ row c.self.invariant.0.dated c.row-row.ensures in
       let of_key = same-key eq key c.args.hash row (rw (c.row-row.ensures, c.key.ensures) at c.in-Some.ensures.found) in
@@ -134,7 +134,7 @@ returns-in_default-copy_of_live g c = rw c.refusal.ensures (record {
 pub invariant_of-self-2 : goal.invariant_of-self-2
 invariant_of-self-2 g c =
     let s = c.self.inside in
-    let row = c.row-row.result.now in
+    let row = c.row-row.result in
     (IsSound-taken _ _ s.housekeeper.lives s.table c.evict.new.self c.self.invariant.0 c.in-Some.number row _ c.row-row.ensures c.evict.ensures.rows (rw c.row-row.ensures at c.evict.ensures.notices), c.self.invariant.1)
 
 pub returns : goal.returns
@@ -154,7 +154,7 @@ returns g c = record {
       let hash = c.requires.found ∙ hashed in
       let ends = given-there _ _ t.0 t.1 (c.finish_computed-key-2.ensures.finishes hash_of (turns steps) alike hashed sound keeps) in
       let owned = ap arc_value c.finish_computed-key-2.ensures.key in
-      let row = c.row-row.result.now in
+      let row = c.row-row.result in
       let dead = row.info.is_hidden || has_come row.info.deadline c.max-now.result in
       let dated = of-row (λ r. IsDated s.housekeeper.lives r.info) c.in-Some.number _ row c.self.invariant.0.dated c.row-row.ensures in
       let of_key = same-key eq key c.args.hash row (rw (c.row-row.ensures, c.key.ensures) at c.in-Some.ensures.found) in
@@ -178,7 +178,7 @@ returns g c = record {
       let hash = c.requires.found ∙ hashed in
       let ends = given-there _ _ t.0 t.1 (c.finish_computed-key-2.ensures.finishes hash_of (turns steps) alike hashed sound keeps) in
       let owned = ap arc_value c.finish_computed-key-2.ensures.key in
-      let row = c.row-row.result.now in
+      let row = c.row-row.result in
       let dead = row.info.is_hidden || has_come row.info.deadline c.max-now.result in
       let dated = of-row (λ r. IsDated s.housekeeper.lives r.info) c.in-Some.number _ row c.self.invariant.0.dated c.row-row.ensures in
       let of_key = same-key eq key c.args.hash row (rw (c.row-row.ensures, c.key.ensures) at c.in-Some.ensures.found) in

@@ -5,8 +5,7 @@ use Rattle.moka_model.specs.Steps.{events_in}
 use Rattle.moka_model.specs.Calls.{Get}
 use Rattle.moka_model.proofs.Callers.{view-of, stands-after}
 use Rattle.moka_expiration.specs.Behaviour.{hash_by}
-use Rattle.moka_rows.specs.declared.rows.Row.{Row}
-use Rattle.moka_table.proofs.Callers.{of-row, one-found}
+use Rattle.moka_table.proofs.Callers.{of-row, one-found, same-row-value}
 use Rattle.moka_state.proofs.Alike.{hash-alike}
 use Rattle.moka_state.proofs.Becoming.{estimates-noted}
 use Rattle.moka_state.proofs.Begins.{looks-in-vain}
@@ -79,7 +78,7 @@ returns-in_default-clone-clause-ends g c = record {
       let there = rw (← c.self.view_is) at stands in
       let it = found-live eq laws _ s.table _ s.latest s.next_number given steps there s.housekeeper.lives refl c.self.invariant.0.dated hash_of alike c.self.invariant.0.hashed key c.args.now c.args.hash hash (omega (arith, c.max-now.ensures)) c.in-Some.number (rw c.max-now.ensures at c.in-Some.ensures) in
       let some = rw c.max-now.ensures at c.in-Some.ensures in
-      let fails = rw (ap (λ (r : Row _ _). r.value) (one-found _ c.row.result.now some.0 c.row.ensures some.1)) at c.in_default-clone.ensures.cases in
+      let fails = rw (same-row-value _ _ (c.row-2.view_is ∙ one-found _ c.row.result some.0 c.row.ensures some.1)) at c.in_default-clone.ensures.cases in
       if-some-at _ _ _ it (λ fine. absurd (fails fine));
 }
 
@@ -103,7 +102,7 @@ returns-clause-ends g c = record {
       let there = rw (← c.self.view_is) at stands in
       let it = found-live eq laws _ s.table _ s.latest s.next_number given steps there s.housekeeper.lives refl c.self.invariant.0.dated hash_of alike c.self.invariant.0.hashed key c.args.now c.args.hash hash (omega (arith, c.max-now.ensures)) c.in-Some.number (rw c.max-now.ensures at c.in-Some.ensures) in
       let some = rw c.max-now.ensures at c.in-Some.ensures in
-      let copied = rw (ap (λ (r : Row _ _). r.value) (one-found _ c.row.result.now some.0 c.row.ensures some.1)) at c.in-Ok.ensures.cases in
+      let copied = rw (same-row-value _ _ (c.row-2.view_is ∙ one-found _ c.row.result some.0 c.row.ensures some.1)) at c.in-Ok.ensures.cases in
       rw it copied;
   stands = λ given steps stands.
       let s = c.self.inside in
@@ -127,7 +126,7 @@ returns-clause-ends g c = record {
 pub returns-clause-kept : goal.returns-clause-kept
 returns-clause-kept g c =
     let row = c.in-Some.ensures.0 in
-    let copied = rw (one-found _ c.row.result.now row c.row.ensures c.in-Some.ensures.1) at c.in-Ok.ensures.cases in
+    let copied = rw (same-row-value _ _ (c.row-2.view_is ∙ one-found _ c.row.result row c.row.ensures c.in-Some.ensures.1)) at c.in-Ok.ensures.cases in
     let key = same-key g.K.PartialEq.eq c.args.key.now c.args.hash row c.in-Some.ensures.2 in
     let kept = of-row (λ r. g.C.CacheTypes.keeps (arc_value r.key) r.value) c.in-Some.number _ row c.self.invariant.0.kept c.in-Some.ensures.1 in
     g.met.C.CacheTypes.copies_keep c.args.key.now row.value c.in-Ok.value copied (g.met.C.CacheTypes.equal_keys_keep (arc_value row.key) c.args.key.now row.value key kept)

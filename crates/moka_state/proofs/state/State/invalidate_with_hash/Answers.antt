@@ -17,13 +17,13 @@ use Rattle.moka_state.proofs.state.State.invalidate_with_hash.Goals as goal
 pub invariant_of-self : goal.invariant_of-self
 invariant_of-self g c =
     let s = c.self.inside in
-    let row = c.row.result.now in
+    let row = c.row.result in
     (IsSound-taken _ _ s.housekeeper.lives s.table c.evict.new.self c.self.invariant.0 c.in-Some.number row _ c.row.ensures c.evict.ensures.rows (rw c.row.ensures at c.evict.ensures.notices), c.self.invariant.1)
 
 pub returns-in-Some-clause-stands : goal.returns-in-Some-clause-stands
 returns-in-Some-clause-stands g c =
     let s = c.self.inside in
-    let row = c.row.result.now in
+    let row = c.row.result in
     let key = same-key g.K.PartialEq.eq c.args.key.now c.args.hash row (rw c.row.ensures at c.in-Some.ensures.found) in
     let dated = of-row (λ r. IsDated s.housekeeper.lives r.info) c.in-Some.number _ row c.self.invariant.0.dated c.row.ensures in
     let why = c.cause-cause.ensures ∙ ap (λ (i : EntryInfo). cause_at Explicit i c.max-now.result) c.info-info.ensures ∙ ap (λ m. cause_at Explicit row.info m) c.max-now.ensures

@@ -42,13 +42,13 @@ returns-in_default-clause-ends g c =
 pub invariant_of-self-2 : goal.invariant_of-self-2
 invariant_of-self-2 g c =
     let s = c.self.inside in
-    let row = c.row-row.result.now in
+    let row = c.row-row.result in
     (IsSound-taken _ _ s.housekeeper.lives s.table c.evict.new.self c.self.invariant.0 c.in-Some.number row _ c.row-row.ensures c.evict.ensures.rows (rw c.row-row.ensures at c.evict.ensures.notices), c.self.invariant.1)
 
 pub returns-clause-ends : goal.returns-clause-ends
 returns-clause-ends g c =
     let s = c.self.inside in
-    let row = c.row-row.result.now in
+    let row = c.row-row.result in
     record {
       reply = λ given steps stands.
           let dead = row.info.is_hidden || has_come row.info.deadline c.max-now.result in
@@ -73,7 +73,7 @@ returns-clause-ends g c =
 pub returns-in_err-found-clause-ends : goal.returns-in_err-found-clause-ends
 returns-in_err-found-clause-ends g c =
     let s = c.self.inside in
-    let row = c.row-row.result.now in
+    let row = c.row-row.result in
     let dead = row.info.is_hidden || has_come row.info.deadline c.max-now.result in
     let dated = of-row (λ r. IsDated s.housekeeper.lives r.info) c.in-Some.number _ row c.self.invariant.0.dated c.row-row.ensures in
     let key = same-key g.K.PartialEq.eq c.args.key.now c.args.hash row (rw c.row-row.ensures at c.in-Some.ensures.found) in
@@ -93,7 +93,7 @@ returns-in_err-found-clause-ends g c =
 
 pub returns-clause-kept : goal.returns-clause-kept
 returns-clause-kept g c =
-    let row = c.row-row.result.now in
+    let row = c.row-row.result in
     let key = same-key g.K.PartialEq.eq c.args.key.now c.args.hash row (rw c.row-row.ensures at c.in-Some.ensures.found) in
     let kept = of-row (λ r. g.C.CacheTypes.keeps (arc_value r.key) r.value) c.in-Some.number _ row c.self.invariant.0.kept c.row-row.ensures in
     if-copied g.V.Clone.is_clone (g.C.CacheTypes.keeps c.args.key.now) (row.info.is_hidden || has_come row.info.deadline c.max-now.result) row.value c.in_ok-found.found

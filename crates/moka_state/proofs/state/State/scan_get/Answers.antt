@@ -29,7 +29,7 @@ pub returns-clause-ends : goal.returns-clause-ends
 returns-clause-ends g c = record {
   reply = λ given steps stands.
       let s = c.self.inside in
-      let row = c.row.result.now in
+      let row = c.row.result in
       let dead = row.info.is_hidden || has_come row.info.deadline c.max-now.result in
       let dated = of-row (λ r. IsDated s.housekeeper.lives r.info) c.in-Some.number _ row c.self.invariant.0.dated c.row.ensures in
       let key = same-key g.K.PartialEq.eq c.args.key.now c.hash-hash.result row (rw c.row.ensures at c.in-Some.ensures.found) in
@@ -44,7 +44,7 @@ returns-clause-ends g c = record {
 pub returns-in_err-found-clause-ends : goal.returns-in_err-found-clause-ends
 returns-in_err-found-clause-ends g c =
     let s = c.self.inside in
-    let row = c.row.result.now in
+    let row = c.row.result in
     let dead = row.info.is_hidden || has_come row.info.deadline c.max-now.result in
     let dated = of-row (λ r. IsDated s.housekeeper.lives r.info) c.in-Some.number _ row c.self.invariant.0.dated c.row.ensures in
     let key = same-key g.K.PartialEq.eq c.args.key.now c.hash-hash.result row (rw c.row.ensures at c.in-Some.ensures.found) in
@@ -62,7 +62,7 @@ returns-in_err-found-clause-ends g c =
 
 pub returns-clause-kept : goal.returns-clause-kept
 returns-clause-kept g c =
-    let row = c.row.result.now in
+    let row = c.row.result in
     let key = same-key g.K.PartialEq.eq c.args.key.now c.hash-hash.result row (rw c.row.ensures at c.in-Some.ensures.found) in
     let kept = of-row (λ r. g.C.CacheTypes.keeps (arc_value r.key) r.value) c.in-Some.number _ row c.self.invariant.0.kept c.row.ensures in
     if-copied g.V.Clone.is_clone (g.C.CacheTypes.keeps c.args.key.now) (row.info.is_hidden || has_come row.info.deadline c.max-now.result) row.value c.in_ok-found.found

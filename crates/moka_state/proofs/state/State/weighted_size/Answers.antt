@@ -1,5 +1,4 @@
-use Rattle.std.proofs.Common.{min, ap, ◌∙◌, refl}
-use Rattle.moka_model.specs.Numbers.{greatest_number}
+use Rattle.std.proofs.Common.{◌∙◌, ap, refl, arith}
 use Rattle.moka_model.specs.Calls.{WeightedSize, Counted}
 use Rattle.moka_state.proofs.Counts.{rows-weighed, writes-weighed}
 use Rattle.moka_state.proofs.Views.{follows-question}
@@ -7,14 +6,14 @@ use Rattle.moka_state.proofs.state.State.weighted_size.Goals as goal
 
 pub returns-clause-counted : goal.returns-clause-counted
 returns-clause-counted g c =
-    rw (← c.self.view_is) (c.min.ensures ∙ ap (min c.weight.result) c.from.ensures
-    ∙ ap (λ n. min n greatest_number) (c.weight.ensures ∙ rows-weighed c.self.inside.table))
+    let weighs = c.weight.ensures ∙ rows-weighed c.self.inside.table in
+    rw (← c.self.view_is) (omega (arith, weighs))
 
 pub returns-clause-reply : goal.returns-clause-reply
 returns-clause-reply g c given steps stands =
     let weighed = writes-weighed g.K.PartialEq.eq given _ steps (rw (← c.self.view_is) at stands) in
-    ap Counted (c.min.ensures ∙ ap (min c.weight.result) c.from.ensures)
-    ∙ ap (λ n. Counted (min n greatest_number)) (c.weight.ensures ∙ rows-weighed c.self.inside.table ∙ weighed)
+    let weighs = c.weight.ensures ∙ rows-weighed c.self.inside.table ∙ weighed in
+    ap Counted (omega (arith, weighs))
 
 pub returns-clause-stands : goal.returns-clause-stands
 returns-clause-stands g c = follows-question g.K.PartialEq.eq _ WeightedSize (λ _ _. refl)

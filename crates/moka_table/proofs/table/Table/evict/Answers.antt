@@ -1,8 +1,6 @@
-use Rattle.std.proofs.Common.{arith}
-use Rattle.moka_model.proofs.Callers.{total-append}
-use Rattle.moka_table.specs.Table.{weight_of}
+use Rattle.std.proofs.Common.{◌^◌, arith}
 use Rattle.moka_rows.proofs.Callers.{length-taken}
-use Rattle.moka_table.proofs.Weights.{total-light, weight_in-le, with-le, with-changed, consistent-taken}
+use Rattle.moka_table.proofs.Weights.{weight_in-below, with-le, with-changed, consistent-taken}
 use Rattle.moka_table.proofs.table.Table.evict.Goals as goal
 
 pub with_weight-self-inside-requires-clause-before : goal.with_weight-self-inside-requires-clause-before
@@ -11,7 +9,7 @@ with_weight-self-inside-requires-clause-before g c =
 
 pub with_weight-self-inside-requires-clause-fits : goal.with_weight-self-inside-requires-clause-fits
 with_weight-self-inside-requires-clause-fits g c =
-    omega (arith, weight_in-le c.remove-row.result.1 c.self.inside.weights, c.self.invariant.0, c.self.invariant.1, total-light _ c.self.invariant.0.light, total-append weight_of (g.R.RowStore.admitted c.self.inside.rows) (g.R.RowStore.waiting c.self.inside.rows))
+    omega (arith, weight_in-below (2 ^ 64) c.remove-row.result.1 c.self.inside.weights (omega arith) (omega arith))
 
 pub invariant_of-self : goal.invariant_of-self
 invariant_of-self g c =

@@ -3,7 +3,7 @@ use denote.Ref.{Bor}
 use Rattle.std.specs.Fn.{Mut}
 use Rattle.moka_rows.specs.declared.rows.Row.{Row}
 use Rattle.moka_table.specs.LiveEntry.{Accepts, FindsLive}
-use Rattle.moka_table.proofs.Finds.{one-found}
+use Rattle.moka_table.proofs.Finds.{one-found, same-row-value}
 use Rattle.moka_table.proofs.table.Table.find_acceptable.Goals as goal
 
 -- where no live value is found, none is accepted, and the closure said nothing
@@ -17,25 +17,25 @@ returns-in_err-number-clause-accepts g c = rw c.from_residual.ensures (None, acc
 pub returns-then-asks_to_replace-clause-accepts : goal.returns-then-asks_to_replace-clause-accepts
 returns-then-asks_to_replace-clause-accepts g c =
     let found = c.in_ok-number.ensures in
-    let same = one-found _ c.row.result.now found.0 c.row.ensures found.1 in
+    let same = same-row-value _ _ (c.row-2.view_is ∙ one-found _ c.row.result found.0 c.row.ensures found.1) in
     let said = rw same at c.asks_to_replace.ensures.says in
     (said.0, inr (c.in_ok-number.number, found.0, found.1, found.2, inr (found.3, said.1, sym said.2 ∙ c.if-asks_to_replace.true)))
 
 pub returns-clause-accepts : goal.returns-clause-accepts
 returns-clause-accepts g c =
     let found = c.in_ok-number.ensures in
-    let same = one-found _ c.row.result.now found.0 c.row.ensures found.1 in
+    let same = same-row-value _ _ (c.row-2.view_is ∙ one-found _ c.row.result found.0 c.row.ensures found.1) in
     let said = rw same at c.asks_to_replace.ensures.says in
     (said.0, (found.0, found.1, found.2, found.3, said.1, sym said.2 ∙ c.if-asks_to_replace.false))
 
 pub returns-then-asks_to_replace-clause-left : goal.returns-then-asks_to_replace-clause-left
 returns-then-asks_to_replace-clause-left g c =
     let found = c.in_ok-number.ensures in
-    let same = one-found _ c.row.result.now found.0 c.row.ensures found.1 in
+    let same = same-row-value _ _ (c.row-2.view_is ∙ one-found _ c.row.result found.0 c.row.ensures found.1) in
     inr (c.in_ok-number.number, found.0, found.1, found.2, found.3, rw same at c.asks_to_replace.ensures.left)
 
 pub returns-clause-left : goal.returns-clause-left
 returns-clause-left g c =
     let found = c.in_ok-number.ensures in
-    let same = one-found _ c.row.result.now found.0 c.row.ensures found.1 in
+    let same = same-row-value _ _ (c.row-2.view_is ∙ one-found _ c.row.result found.0 c.row.ensures found.1) in
     inr (c.in_ok-number.number, found.0, found.1, found.2, found.3, rw same at c.asks_to_replace.ensures.left)

@@ -1,7 +1,7 @@
 use Rattle.moka_expiration.specs.Behaviour.{hash_by, behaviour_by}
 use Rattle.moka_expiration.specs.StateData.{estimates, view_by}
 use Rattle.moka_guarded.proofs.Kept.{kept-look}
-use Rattle.moka_guarded.proofs.guarded.GuardedState.find_acceptable_at.Goals as goal
+use Rattle.moka_guarded.proofs.guarded.GuardedState.find_acceptable_with_hash.Goals as goal
 
 pub invariant_of-self : goal.invariant_of-self
 invariant_of-self g c =
