@@ -4,9 +4,10 @@ ghost use Rattle.moka_model.specs.declared.turns.Kind.{Kind};
 ghost use Rattle.moka_state.specs.Finish.{Fits, outcome_of};
 
 use crate::calls::{Doing, Selected, Write, op_of};
-use crate::returned::{NO_MEMORY, Returned};
+use crate::returned::NO_MEMORY;
 use crate::turns::{Given, NONE, Turns, consume_begun, consume_begun_compute, finish_turn};
 use moka::sync::value_initializer::{Begun, BegunCompute, Kind, Outcome};
+use moka_test_support::returned::Returned;
 use std::alloc::Global;
 use std::sync::Arc;
 

@@ -13,6 +13,7 @@ use moka::state::CacheState;
 use moka::sync::builder::Single;
 use moka::sync::segment::SegmentedState;
 use moka::sync::{Cache, CacheBuilder, SegmentedCache};
+use moka_test_support::sharing::share;
 use std::alloc::{AllocError, Global};
 use std::collections::VecDeque;
 use std::hash::BuildHasherDefault;
@@ -157,14 +158,6 @@ pub(crate) struct SegmentedTwin {
     pub state: PlainSegments,
     pub now: u64,
     pub alloc: Global,
-}
-
-/// Wraps a value in an `Arc`. Retries once if the allocation fails.
-pub(crate) fn share<T: Drop>(alloc: Global, value: T) -> Result<Arc<T>, AllocError> {
-    match Arc::new(alloc, value) {
-        Ok(value) => Ok(value),
-        Err(failed) => Ok(Arc::new(alloc, failed.value)?),
-    }
 }
 
 /// More removals than one call can make.

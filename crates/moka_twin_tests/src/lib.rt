@@ -3,6 +3,8 @@
 #![tactic(auto)]
 
 #[cfg(test)]
+mod bodies;
+#[cfg(test)]
 mod by_turns;
 #[cfg(test)]
 mod caches;
@@ -11,13 +13,9 @@ mod calls;
 #[cfg(test)]
 mod lists;
 #[cfg(test)]
-mod on_cache;
+mod on_owned;
 #[cfg(test)]
-mod on_segmented_cache;
-#[cfg(test)]
-mod on_segmented_state;
-#[cfg(test)]
-mod on_state;
+mod on_shared;
 #[cfg(test)]
 mod refusals;
 #[cfg(test)]

@@ -2,10 +2,10 @@
 
 use crate::caches::Types;
 use crate::calls::{Doing, Selected, next_of, op_of, try_op_of};
-use crate::returned::{
+use moka::sync::{OwnedKeyEntrySelector, RefKeyEntrySelector};
+use moka_test_support::returned::{
     Returned, computed_of, entry_of, optional_entry_of, tried_compute_of, tried_entry_of,
 };
-use moka::sync::{OwnedKeyEntrySelector, RefKeyEntrySelector};
 use std::sync::Wait;
 
 /// A selector of a shared cache, made by `entry` or by `entry_by_ref`.

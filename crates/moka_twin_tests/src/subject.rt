@@ -2,9 +2,9 @@
 
 use crate::caches::Left;
 use crate::calls::{All, Call, Form, Key, Look, Selected};
-use crate::returned::Returned;
 use crate::turns::{Turns, turn_reply};
 use moka::policy::Refused;
+use moka_test_support::returned::Returned;
 use std::alloc::{AllocError, Global};
 use std::process::Abort;
 

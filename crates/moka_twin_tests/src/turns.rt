@@ -3,9 +3,8 @@ ghost use Rattle.std.specs.Prelude.{◌≡◌, ◌≢◌, ℕ};
 ghost use Rattle.moka_model.specs.declared.turns.Kind.{Kind};
 ghost use Rattle.moka_state.specs.Finish.{Fits, outcome_of};
 
-use crate::caches::share;
 use crate::calls::{Doing, Turned, Write, op_of};
-use crate::returned::{Returned, answer_of, done_of, finished_of, parts};
+use crate::returned::{answer_of, finished_of};
 use crate::subject::Reply;
 use moka::common::entry::Entry;
 use moka::ops::compute::Op;
@@ -14,6 +13,8 @@ use moka::sync::value_initializer::{
     Begun, BegunCompute, CollectRefused, Collected, FinishRefused, Finished, Kind, Outcome, Ticket,
     Turn,
 };
+use moka_test_support::returned::{Returned, done_of, parts};
+use moka_test_support::sharing::share;
 use std::alloc::{AllocError, Global};
 use std::process::Abort;
 use std::sync::Arc;
