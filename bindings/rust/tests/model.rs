@@ -25,6 +25,39 @@ fn all_settings() -> Vec<Settings> {
     ]
 }
 
+/// Makes a call without a key on a cache and on its model, from the numbers 88 to 99, and compares their replies.
+macro_rules! compare_without_key {
+    ($call:expr, $cache:ident, $model:ident, $limit:expr, $now:ident) => {
+        match $call {
+            88 => {
+                $cache.invalidate_all();
+                $model.invalidate_all();
+            }
+            89..=90 => {
+                $cache.run_pending_tasks($now);
+                assert!(!$model.maintain(None, $now));
+            }
+            91..=92 => {
+                let limit = $limit;
+                assert_eq!($cache.run_pending_tasks_up_to(limit, $now), $model.maintain(Some(limit), $now));
+            }
+            93..=94 => assert_eq!($cache.entry_count(), $model.entry_count()),
+            95..=96 => assert_eq!($cache.weighted_size(), $model.weighted_size()),
+            _ => assert_eq!($cache.take_notice(), $model.take_notice()),
+        }
+    };
+}
+
+/// Compares all notices of a cache that are not taken yet with those of its model.
+macro_rules! compare_notices {
+    ($cache:ident, $model:ident) => {
+        while let Some(notice) = $model.take_notice() {
+            assert_eq!($cache.take_notice(), Some(notice));
+        }
+        assert_eq!($cache.take_notice(), None);
+    };
+}
+
 #[test]
 fn numbers_answer_as_the_model() {
     let all = all_settings();
@@ -48,27 +81,10 @@ fn numbers_answer_as_the_model() {
                     cache.invalidate(key, now);
                     model.remove(&key, now);
                 }
-                88 => {
-                    cache.invalidate_all();
-                    model.invalidate_all();
-                }
-                89..=90 => {
-                    cache.run_pending_tasks(now);
-                    assert!(!model.maintain(None, now));
-                }
-                91..=92 => {
-                    let limit = random.below(5);
-                    assert_eq!(cache.run_pending_tasks_up_to(limit, now), model.maintain(Some(limit), now));
-                }
-                93..=94 => assert_eq!(cache.entry_count(), model.entry_count()),
-                95..=96 => assert_eq!(cache.weighted_size(), model.weighted_size()),
-                _ => assert_eq!(cache.take_notice(), model.take_notice()),
+                call => compare_without_key!(call, cache, model, random.below(5), now),
             }
         }
-        while let Some(notice) = model.take_notice() {
-            assert_eq!(cache.take_notice(), Some(notice));
-        }
-        assert_eq!(cache.take_notice(), None);
+        compare_notices!(cache, model);
     }
 }
 
@@ -103,27 +119,10 @@ fn bytes_answer_as_the_model() {
                     cache.invalidate(&key, now).unwrap();
                     model.remove(&key, now);
                 }
-                88 => {
-                    cache.invalidate_all();
-                    model.invalidate_all();
-                }
-                89..=90 => {
-                    cache.run_pending_tasks(now);
-                    assert!(!model.maintain(None, now));
-                }
-                91..=92 => {
-                    let limit = random.below(5);
-                    assert_eq!(cache.run_pending_tasks_up_to(limit, now), model.maintain(Some(limit), now));
-                }
-                93..=94 => assert_eq!(cache.entry_count(), model.entry_count()),
-                95..=96 => assert_eq!(cache.weighted_size(), model.weighted_size()),
-                _ => assert_eq!(cache.take_notice(), model.take_notice()),
+                call => compare_without_key!(call, cache, model, random.below(5), now),
             }
         }
-        while let Some(notice) = model.take_notice() {
-            assert_eq!(cache.take_notice(), Some(notice));
-        }
-        assert_eq!(cache.take_notice(), None);
+        compare_notices!(cache, model);
     }
 }
 
