@@ -11,6 +11,7 @@ use lru::LruCache;
 use std::collections::hash_map::RandomState;
 use std::env;
 use std::hash::BuildHasher;
+use std::process::ExitCode;
 use std::sync::Mutex;
 use std::thread;
 use std::time::Instant;
@@ -132,7 +133,7 @@ fn print_table(rounds: usize, threads: usize) {
     println!();
 }
 
-fn main() {
+fn main() -> ExitCode {
     let arguments: Vec<String> = env::args().skip(1).collect();
     if let Some((cache, load, calls)) = asked(&arguments) {
         match cache {
@@ -142,10 +143,17 @@ fn main() {
             3 => measure("from Rust, TinyLFU, segments", segments(load, Policy::TinyLfu), load, calls),
             _ => measure("no cache", Nothing, load, calls),
         }
-        return;
+        return ExitCode::SUCCESS;
     }
     match arguments.iter().map(String::as_str).collect::<Vec<_>>()[..] {
-        ["threads", rounds] => [1, 4].map(|threads| print_table(rounds.parse().expect("ROUNDS is a number"), threads)),
-        _ => return println!("usage: rust_shared one CACHE LOAD CALLS, or threads ROUNDS"),
-    };
+        ["threads", rounds] => match rounds.parse() {
+            Ok(rounds) if rounds > 0 => {
+                [1, 4].into_iter().for_each(|threads| print_table(rounds, threads));
+                return ExitCode::SUCCESS;
+            }
+            _ => eprintln!("ROUNDS is a number from 1 on, and not {rounds}"),
+        },
+        _ => eprintln!("usage: rust_shared one CACHE LOAD CALLS, or threads ROUNDS"),
+    }
+    ExitCode::FAILURE
 }
