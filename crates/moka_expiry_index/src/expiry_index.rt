@@ -8,6 +8,9 @@ use crate::min_tree::{self, NEVER, clear_from, first_within, rebuild, set_leaf};
 use moka_rows::rows::RowId;
 use std::alloc::{AllocError, Global};
 
+/// How many numbers there are, at most, since each has 32 bits.
+const MOST_NUMBERS: usize = 1 << 32;
+
 /// Numbers in an order, each with a deadline.
 ///
 /// Each number has a slot, after the slots of all numbers that came before. A number that is
@@ -202,7 +205,10 @@ impl ExpiryIndex {
         if number > RowId::MAX as usize {
             return Err(AllocError);
         }
-        self.places.resize(number + 1, 0)
+        self.places.reserve(number + 1 - self.places.len())?;
+        // As many as there is memory for. So numbers that come one by one are seldom new.
+        let known = self.places.capacity().min(MOST_NUMBERS);
+        self.places.resize(known, 0)
     }
 
     /// Doubles the number of slots. Visits each slot.

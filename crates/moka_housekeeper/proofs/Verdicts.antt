@@ -1,5 +1,5 @@
 -- The judgement of the first row that waits, and of all, as what is left to do.
-use Rattle.std.proofs.Common.{◌≡◌, ℕ, ◌==◌, ◌||◌, ◌+◌, Bool, true, false, cond, Option, Some, None, List, [], ◌∷◌, ◌++◌, length, take, drop, refl, sym, ap, subst, ◌∙◌}
+use Rattle.std.proofs.Common.{◌≡◌, ℕ, ◌==◌, ◌||◌, ◌+◌, nat_le, Bool, true, false, cond, Option, Some, None, List, [], ◌∷◌, ◌++◌, length, take, drop, refl, sym, ap, subst, ◌∙◌}
 use Rattle.std.specs.Option.{IfSome, IsSome}
 use Rattle.std.proofs.lemmas.Bool.{cond-true, cond-false}
 use Rattle.std.proofs.lemmas.List.{length-take-le}
@@ -9,7 +9,7 @@ use Rattle.moka_model.proofs.Callers.{admitting, dropping, front-le, judge_both}
 use Rattle.moka_rows.specs.declared.rows.Row.{Row}
 use Rattle.moka_rows.specs.Rows.{row_under, without_row, first_number, NumbersDiffer}
 use Rattle.moka_table.specs.Table.{Contents, entries, weight_of}
-use Rattle.moka_housekeeper.specs.Maintain.{notice_for, notices_for, is_within, hash_wins, row_wins, rows_of, lets_leave, limit_less, judgements, DoesParts, JudgesFirst}
+use Rattle.moka_housekeeper.specs.Maintain.{notice_for, notices_for, is_within, frequencies, hash_wins, row_wins, rows_of, lets_leave, limit_less, judgements, DoesParts, JudgesFirst}
 use Rattle.moka_rows.proofs.Callers.{row_under-append_right, begins-with, absent-before, stored-at, row_under-at, without_row-at}
 use Rattle.moka_housekeeper.proofs.Resuming.{Resumes, resumes-behind, resumes-within, does-after, does-one, does-not}
 use Rattle.moka_housekeeper.proofs.Sweeping.{queues-are}
@@ -88,6 +88,10 @@ module _ {K V : Type 0} where
             or_true : (s t : Bool) → t ≡ true → (s || t) ≡ true
             or_true true t e = refl
             or_true false t e = e
+
+        -- as each does under LRU,
+        pub admits-lru : is_lru ≡ true → Judged admits
+        admits-lru lru = admits-won true (sym (ap (λ b. b || nat_le (frequencies frequency_of (take count admitted) + 1) (frequency_of row.hash)) lru)) refl
 
         -- and one that needs some and does not win is dropped
         pub drops-lost : (count == 0) ≡ false → (won : Bool) → won ≡ hash_wins is_lru frequency_of row.hash (take count admitted) → won ≡ false → Judged drops

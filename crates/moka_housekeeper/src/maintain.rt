@@ -1,6 +1,6 @@
 //! The maintenance of a table. It removes what is invalidated or expired, then shrinks to the
 //! capacity, and then admits or drops each pending row.
-ghost use Rattle.std.specs.Prelude.{◌≡◌, ℕ, ◌+◌, ◌≤◌, false, not, Some, None, List, [], ◌∷◌, ◌++◌, length, take, drop, if◌then◌else◌};
+ghost use Rattle.std.specs.Prelude.{◌≡◌, ℕ, ◌+◌, ◌≤◌, true, false, not, Some, None, List, [], ◌∷◌, ◌++◌, length, take, drop, if◌then◌else◌};
 ghost use Rattle.moka_model.specs.declared.notification.RemovalCause.TheVariants.{Size};
 ghost use Rattle.moka_model.specs.Maintenance.{front, dead_admitted, dead_waiting, over};
 ghost use Rattle.moka_policy.specs.Policy.{is_lru};
@@ -239,7 +239,8 @@ fn evict_over_capacity<K: Eq + Drop, V: Drop, R: RowStore<K, V>>(
 
 /// Judges each pending row, in order. Returns `true` if the limit stopped it.
 ///
-/// Visits those that are judged, and for each the victims that it would need.
+/// Visits those that are judged, and for each the victims that it would need. Under
+/// [`EvictionPolicy::lru`] and without a limit, it visits no victim.
 #[inline(always)]
 fn admit_or_drop_all<K: Eq + Drop, V: Drop, R: RowStore<K, V>, F: FrequencySource>(
     table: &mut Table<K, V, R>,
@@ -257,12 +258,62 @@ fn admit_or_drop_all<K: Eq + Drop, V: Drop, R: RowStore<K, V>, F: FrequencySourc
     ensures room { table.old.room ≤ table.new.room }
     ensures may_hide { table.new.may_hide ≡ table.old.may_hide }
 {
+    // Under LRU and without a limit each row wins, so no victims are counted.
+    let is_counted = limit.is_some() || policy.is_tiny_lfu();
+    if !is_counted {
+        admit_all(table, capacity);
+        return false;
+    }
     while let Some(number) = table.first_waiting() {
         if admit_or_drop(table, capacity, policy, source, number, limit, visits) {
             return true;
         }
     }
     false
+}
+
+/// Judges each pending row, in order, as under [`EvictionPolicy::lru`] and without a limit: evicts
+/// those that are heavier than the capacity, and admits all others. Takes no step from row to row.
+#[inline(never)]
+fn admit_all<K: Eq + Drop, V: Drop, R: RowStore<K, V>>(
+    table: &mut Table<K, V, R>,
+    capacity: Option<u64>,
+)
+    ensures judged { (frequency_of : ℕ → ℕ) → DoesParts (notice_for Size) None
+        (judgements true frequency_of capacity table.old) table.old table.new None false }
+    ensures room { table.old.room ≤ table.new.room }
+    ensures may_hide { table.new.may_hide ≡ table.old.may_hide }
+{
+    while let Some(first) = table.first_waiting() {
+        admit_first(table, capacity, first);
+    }
+}
+
+/// Judges the first pending row, as under [`EvictionPolicy::lru`] and without a limit.
+///
+/// A row that is heavier than the capacity is evicted. For any other the least recently used rows
+/// are evicted until it fits, and it is admitted.
+#[inline(always)]
+fn admit_first<K: Eq + Drop, V: Drop, R: RowStore<K, V>>(
+    table: &mut Table<K, V, R>,
+    capacity: Option<u64>,
+    first: RowId,
+)
+    requires first { Some first ≡ first_number table.old.waiting }
+    requires apart { NumbersDiffer (entries table.old) }
+    ensures judged { (frequency_of : ℕ → ℕ)
+        → (first : ℕ × Row K V) × (rest : List (ℕ × Row K V)) × JudgesFirst
+        true frequency_of capacity None first rest table.old table.new None false }
+    ensures room { table.old.room ≤ table.new.room }
+    ensures may_hide { table.new.may_hide ≡ table.old.may_hide }
+{
+    let weight = table.row(first).info().policy_weight;
+    if fits(capacity, weight, 0) {
+        evict_until_fits(table, capacity, weight);
+        table.admit(first);
+    } else {
+        drop_first(table, first, &mut None);
+    }
 }
 
 /// Judges the first pending row. Returns `true` if the limit stopped it; then nothing has changed.
@@ -308,7 +359,7 @@ fn admit_or_drop<K: Eq + Drop, V: Drop, R: RowStore<K, V>, F: FrequencySource>(
 }
 
 /// Evicts the first pending row. Returns `true` if the limit stopped it; then nothing has changed.
-#[inline(always)]
+#[inline(never)]
 fn drop_first<K: Eq + Drop, V: Drop, R: RowStore<K, V>>(
     table: &mut Table<K, V, R>,
     number: RowId,
@@ -421,6 +472,28 @@ fn evict_first<K: Eq + Drop, V: Drop, R: RowStore<K, V>>(table: &mut Table<K, V,
     ensures may_hide { table.new.may_hide ≡ table.old.may_hide }
 {
     for _ in 0..count {
+        table.evict_first(RemovalCause::Size);
+    }
+}
+
+/// Evicts the least recently used rows until this much more weight fits. Takes no step from row to
+/// row.
+#[inline(always)]
+fn evict_until_fits<K: Eq + Drop, V: Drop, R: RowStore<K, V>>(
+    table: &mut Table<K, V, R>,
+    capacity: Option<u64>,
+    more: u32,
+)
+    requires { is_within capacity (more + 0) ≡ true }
+    ensures admitted { table.new.admitted
+        ≡ drop (front weight_of capacity more table.old.admitted) table.old.admitted }
+    ensures waiting { table.new.waiting ≡ table.old.waiting }
+    ensures notices { table.new.notices ≡ table.old.notices ++ notices_for Size
+        (take (front weight_of capacity more table.old.admitted) table.old.admitted) }
+    ensures room { table.old.room ≤ table.new.room }
+    ensures may_hide { table.new.may_hide ≡ table.old.may_hide }
+{
+    while !fits(capacity, more, table.admitted_weight()) {
         table.evict_first(RemovalCause::Size);
     }
 }

@@ -1,6 +1,10 @@
 -- The first number of each hash.
-use Rattle.std.specs.Prelude.{◌≡◌, ◌≢◌, ℕ, ◌≤◌, Option, nat_eq}
+use Rattle.std.specs.Prelude.{◌≡◌, ◌≢◌, ℕ, ◌*◌, ◌^◌, ◌≤◌, min, Option, nat_eq}
 use Rattle.indexmap.specs.IndexMap.{IndexMap, get, spare}
+
+-- Twice this many places, or 2^31 if that is fewer.
+abbrev pub twice_of : ℕ → ℕ
+twice_of places = 2 * min places (2 ^ 30)
 
 module _ {S : Type 0} where
   -- The first number of a hash, if it has one.

@@ -1,6 +1,6 @@
 -- The terms in which contracts describe `RowIndex`.
 use Rattle.std.specs.Prelude.{◌≡◌, ℕ, ◌≤◌, Option, List, ◌++◌}
-use Rattle.indexmap.specs.IndexMap.{spare}
+use Rattle.indexmap.specs.IndexMap.{spare, index_map_len}
 use Rattle.moka_index.specs.BucketHeads.{first_in}
 use Rattle.moka_index.specs.Deques.{admitted_in, waiting_in, places_in, hash_in, same_in, Stands}
 use Rattle.moka_index.specs.Chains.{chain_in}
@@ -45,6 +45,10 @@ places_of l = places_in l.orders
 -- For how many more hashes the index has room.
 abbrev pub spare_of : RowIndex → ℕ
 spare_of l = spare l.bucket_heads
+
+-- How many hashes the index has.
+abbrev pub hashes_of : RowIndex → ℕ
+hashes_of l = index_map_len l.bucket_heads
 
 -- The hashes stay the same, and no room is lost.
 pub record PreservesRoom (old new : RowIndex) : Type 0 where

@@ -1,16 +1,21 @@
 //! An index from each hash to its first number.
 ghost use Rattle.std.specs.Prelude.{◌≡◌, ◌≢◌, ℕ, ◌+◌, ◌<◌, ◌≤◌, Some, None, option_map, IfSome};
-ghost use Rattle.std.specs.Prelude.{MatchOption, slice_get};
-ghost use Rattle.indexmap.specs.IndexMap.{spare};
-ghost use Rattle.moka_index.specs.BucketHeads.{first_in, Leads};
+ghost use Rattle.std.specs.Prelude.{MatchOption, OnOk, slice_get};
+ghost use Rattle.indexmap.specs.IndexMap.{spare, index_map_len};
+ghost use Rattle.moka_index.specs.BucketHeads.{first_in, twice_of, Leads};
 
 use crate::identity_hasher::IdentityHasher;
 use indexmap::IndexMap;
 use moka_rows::rows::RowId;
+use std::alloc::AllocError;
 use std::hash::BuildHasherDefault;
 
 /// An index from a hash to its first number. It uses the hash as it is.
 pub type BucketHeads = IndexMap<u64, RowId, BuildHasherDefault<IdentityHasher>>;
+
+/// For how many places, at most, an index gets room twice over. It has room for 9 * 2^28 hashes at
+/// most.
+const MOST_DOUBLED: usize = 1 << 30;
 
 /// Returns the first number of a hash, if it has one.
 #[inline(always)]
@@ -33,6 +38,33 @@ pub fn find_bucket(bucket_heads: &BucketHeads, hash: u64) -> Option<(usize, RowI
         Some((place, _, first)) => Some((place, *first)),
         None => None,
     }
+}
+
+/// Makes room for twice as many hashes as there are `places`, or for 2^31 if that is fewer. Does
+/// nothing if so many places are `known`.
+///
+/// A hash that leaves does not always give its room back. An index without room is built anew: in
+/// place if it would be at most half full, and else in twice its memory. So an index with this room
+/// does not allocate again.
+///
+/// # Errors
+///
+/// - `AllocError`: an allocation failed.
+pub fn reserve_twice(
+    bucket_heads: &mut BucketHeads,
+    known: usize,
+    places: usize,
+) -> Result<(), AllocError>
+    ensures made { OnOk result (known < places
+        → twice_of places ≤ index_map_len bucket_heads.new + spare bucket_heads.new) }
+    ensures same { bucket_heads.new.entries ≡ bucket_heads.old.entries }
+    ensures room { spare bucket_heads.old ≤ spare bucket_heads.new }
+{
+    if places <= known {
+        return Ok(());
+    }
+    let wanted = 2 * places.min(MOST_DOUBLED);
+    bucket_heads.reserve(wanted.saturating_sub(bucket_heads.len()))
 }
 
 /// Puts a number before all others with its hash. Returns the one that was the first before, or 0.

@@ -7,7 +7,9 @@ ghost use Rattle.moka_index.specs.Chains.{IsIndexed, chain_in};
 ghost use Rattle.moka_index.specs.BucketHeads.{first_in};
 ghost use Rattle.indexmap.specs.IndexMap.{spare};
 
-use crate::bucket_heads::{self, BucketHeads, change_first, drop_first, find_bucket, put_first};
+use crate::bucket_heads::{
+    self, BucketHeads, change_first, drop_first, find_bucket, put_first, reserve_twice,
+};
 use crate::deques::{Deques, Queue};
 use indexmap::IndexMap;
 use moka_rows::rows::RowId;
@@ -59,7 +61,8 @@ fn unchain(orders: &mut Deques, bucket_heads: &mut BucketHeads, number: RowId)
 impl RowIndex {
     ghost use Rattle.moka_index.specs.RowIndex.{admitted_of, waiting_of, IsLinked, hash_at};
     ghost use Rattle.moka_index.specs.RowIndex.{first_at, same_at};
-    ghost use Rattle.moka_index.specs.RowIndex.{places_of, spare_of, PreservesRoom};
+    ghost use Rattle.moka_index.specs.RowIndex.{places_of, spare_of, hashes_of, PreservesRoom};
+    ghost use Rattle.moka_index.specs.BucketHeads.{twice_of};
 
     /// Creates links without numbers. Does not allocate.
     pub fn new(alloc: Global) -> Self
@@ -155,16 +158,22 @@ impl RowIndex {
     /// Makes places for all numbers below `places`, and room for the hashes of `more` more numbers.
     /// The orders and the hashes stay as they were, also if it fails.
     ///
+    /// With new places it makes room for twice as many hashes as there are places. So the index finds
+    /// room again without an allocation, as long as there are no more places.
+    ///
     /// # Errors
     ///
     /// - `AllocError`: an allocation failed, or `places` has more than 32 bits.
     pub fn reserve(&mut self, places: usize, more: usize) -> Result<(), AllocError>
         ensures made { OnOk result (places ≤ places_of self.new) }
         ensures spare { OnOk result (more ≤ spare_of self.new) }
+        ensures twice { OnOk result (places_of self.old < places
+            → twice_of places ≤ hashes_of self.new + spare_of self.new) }
         ensures admitted { admitted_of self.new ≡ admitted_of self.old }
         ensures waiting { waiting_of self.new ≡ waiting_of self.old }
         ensures preserves { PreservesRoom self.old self.new }
     {
+        reserve_twice(&mut self.bucket_heads, self.orders.places(), places)?;
         self.orders.reserve(places)?;
         self.bucket_heads.reserve(more)
     }

@@ -326,12 +326,14 @@ impl<K: Eq + Drop, V: Drop, R: RowStore<K, V>> Table<K, V, R> {
         let stored = self.len() + self.notice_count();
         let places = self.notices.capacity() - stored;
         let room = self.rows.room().min(places);
-        if room == 0 {
+        if places == 0 {
             // A queue that begins at the front of its memory doubles it when it grows.
-            if places == 0 {
-                self.begin_notices_anew();
-            }
+            self.begin_notices_anew();
             return self.reserve(AT_ONCE);
+        }
+        if room == 0 {
+            // The store may have lost room without being full. For one row more it need not grow.
+            return self.reserve(1);
         }
         self.sure = room.min(AT_MOST);
         Ok(())

@@ -243,10 +243,12 @@ impl<K: Hash + Drop, V: Clone, R: RowStore<K, V>> Table<K, V, R> {
         }
     }
 
-    /// Writes a value to a slot, and returns whether a live value was there. It uses the room
-    /// that was made and does not allocate.
-    #[inline(always)]
-    pub fn write<C: CacheTypes<K, V>>(
+    /// Writes a value over a stored one, of which a lifetime may limit either. Returns whether the
+    /// old one was live.
+    ///
+    /// It is not inlined, so that a write of any other value stays small.
+    #[inline(never)]
+    fn overwrite_dated<C: CacheTypes<K, V>>(
         &mut self,
         slot: WriteSlot<K>,
         new: NewValue<V>,
@@ -264,11 +266,64 @@ impl<K: Hash + Drop, V: Clone, R: RowStore<K, V>> Table<K, V, R> {
             weight,
             now,
         } = new;
-        if self.is_over_plain(&slot, behaviour, lives) {
-            return self.overwrite_plain(slot, value, weight, now);
-        }
         let (info, is_over_live) = self.info_of(&slot, &value, weight, now, behaviour, lives);
         self.put(slot, hash, value, info);
         is_over_live
+    }
+
+    /// Writes a value into a new row. It uses the room that was made and does not allocate.
+    #[inline(always)]
+    fn write_new<C: CacheTypes<K, V>>(
+        &mut self,
+        key: Arc<K>,
+        new: NewValue<V>,
+        behaviour: &Behaviour<K, V, C>,
+        lives: &ExpirationPolicy,
+    )
+        requires room { 0 < self.old.room }
+        ensures writes { Writes (⟦<C as BehaviourView<K, V>>⟧.behaviour behaviour.now) lives.now
+            (WriteSlot.Vacant key) new self.old self.new false }
+    {
+        let info = EntryInfo {
+            own_life: behaviour.life_of_new(&key, &new.value, new.now),
+            ..EntryInfo::new(new.weight, new.now)
+        };
+        let info = lives.with_deadline(info);
+        self.add(Row {
+            key,
+            hash: new.hash,
+            value: new.value,
+            info: PackedEntryInfo::new(info),
+        });
+    }
+
+    /// Writes a value to a slot, and returns whether a live value was there. It uses the room
+    /// that was made and does not allocate.
+    #[inline(always)]
+    pub fn write<C: CacheTypes<K, V>>(
+        &mut self,
+        slot: WriteSlot<K>,
+        new: NewValue<V>,
+        behaviour: &Behaviour<K, V, C>,
+        lives: &ExpirationPolicy,
+    ) -> bool
+        requires stored { HasSlot slot self.old }
+        requires room { 0 < self.old.room }
+        ensures writes { Writes (⟦<C as BehaviourView<K, V>>⟧.behaviour behaviour.now) lives.now
+            slot new self.old self.new result }
+    {
+        if self.is_over_plain(&slot, behaviour, lives) {
+            return self.overwrite_plain(slot, new.value, new.weight, new.now);
+        }
+        match slot {
+            WriteSlot::Vacant { key } => {
+                self.write_new(key, new, behaviour, lives);
+                false
+            }
+            WriteSlot::Occupied { number, key } => {
+                let slot = WriteSlot::Occupied { number, key };
+                self.overwrite_dated(slot, new, behaviour, lives)
+            }
+        }
     }
 }
