@@ -1,164 +1,165 @@
-//! Arguments, and readers and writers that fail.
-use crate::runs::{Row, SOUND, Way, check_run};
+//! Readers and writers that fail, and lines that the program prints only without memory.
+use moka::PredicateError;
+use moka::policy::Refused;
 use mokabox_interpreter::program::run_program;
 use mokabox_interpreter::script::Status;
-use std::fs;
-use std::io::BufWriter;
+use mokabox_syntax::output_line::{OutputLine, write_line};
+use std::alloc::Global;
+use std::io::{BufReader, BufWriter, Error, ErrorKind, Read, Write};
 use std::test::Fail;
+use std::{fs, io};
 
-const USAGE: &str = "usage: mokabox [threads N]\n";
+/// A reader whose reads fail.
+#[derive(Clone, Copy)]
+struct Broken;
 
-const SCRIPT: &str = "new\ninsert 1 a\nget 1\nhas 2\n";
-
-const PRINTED: &str = "ok\nok\nsome a\nfalse\n";
-
-// Any other arguments print the usage and fail, and nothing is read.
-#[test]
-fn any_argument_is_answered_with_the_usage(rt: HostRuntime) -> Result<(), Fail> {
-    // The reader fails, so a run that reads would fail.
-    let way = Way {
-        breaks: true,
-        ..SOUND
-    };
-    for arguments in [
-        ["threads"].as_slice(),
-        &["threads", "2"],
-        &["--help", "--help"],
-        &["--version", "threads"],
-        &["-h"],
-        &[""],
-        &["new", "", "new"],
-    ] {
-        check_run(
-            &rt,
-            rt.alloc(),
-            way,
-            arguments,
-            b"",
-            USAGE.as_bytes(),
-            Status::Bad,
-        )?;
+impl Read for Broken {
+    fn read(&mut self, _buf: &mut [u8]) -> io::Result<usize> {
+        Err(Error::from(ErrorKind::Other))
     }
-    Ok(())
 }
 
-// A writer that is full fails the run.
+/// A writer that takes so many bytes. Then a write and a flush fail.
+#[derive(Drop)]
+pub(crate) struct Sink {
+    pub(crate) taken: Vec<u8>,
+    room: usize,
+}
+
+impl Sink {
+    pub(crate) fn new(alloc: Global, room: usize) -> Self {
+        let taken = Vec::new(alloc);
+        Sink { taken, room }
+    }
+}
+
+impl Write for Sink {
+    fn write(&mut self, buf: &[u8]) -> io::Result<usize> {
+        let length = self.room.min(buf.len());
+        if length < buf.len() && length == 0 {
+            return Err(Error::from(ErrorKind::Other));
+        }
+        self.taken.extend_from_slice(&buf[..length])?;
+        self.room -= length;
+        Ok(length)
+    }
+
+    fn flush(&mut self) -> io::Result<()> {
+        if self.room == 0 {
+            return Err(Error::from(ErrorKind::Other));
+        }
+        Ok(())
+    }
+}
+
+// A writer that is full fails the run, at a write or when it is flushed.
 #[test]
 fn a_writer_that_is_full_fails_the_run(rt: HostRuntime) -> Result<(), Fail> {
-    let usage = ["threads", "2"];
-    for (arguments, wanted) in [([].as_slice(), PRINTED), (&usage, USAGE)] {
-        for room in 0..wanted.len() {
-            let way = Way { room, ..SOUND };
-            let taken = &wanted.as_bytes()[..room];
-            check_run(
-                &rt,
-                rt.alloc(),
-                way,
-                arguments,
-                SCRIPT.as_bytes(),
-                taken,
-                Status::Failed,
-            )?;
+    let usage = [String::from_str(rt.alloc(), "threads")?];
+    for (arguments, script, wanted) in [
+        ([].as_slice(), "", ""),
+        (&[], "new", "ok\n"),
+        (
+            &[],
+            "new\ninsert 1 a\nget 1\nhas 2\n",
+            "ok\nok\nsome a\nfalse\n",
+        ),
+        (&[], "new\nnew\n", "ok\nbad line\n"),
+        (&[], "\n", "bad line\n"),
+        (&usage, "", "usage: mokabox [threads N]\n"),
+    ] {
+        let (script, wanted) = (script.as_bytes(), wanted.as_bytes());
+        for room in 0..=wanted.len() {
+            let mut sink = Sink::new(rt.alloc(), room);
+            let status = run_program(rt.alloc(), arguments, script, &mut sink, &mut io::sink());
+            assert_eq!(rt; status.code(), 1, "of {script:?} with room for {room}");
+            assert_eq!(rt; sink.taken.as_slice(), &wanted[..room]);
         }
     }
-    let way = Way {
-        room: PRINTED.len(),
-        ..SOUND
-    };
-    check_run(
-        &rt,
-        rt.alloc(),
-        way,
-        &[],
-        SCRIPT.as_bytes(),
-        PRINTED.as_bytes(),
-        Status::Done,
-    )
-}
-
-// A flush that fails fails the run.
-#[test]
-fn a_flush_that_fails_fails_the_run(rt: HostRuntime) -> Result<(), Fail> {
-    let way = Way {
-        flush_fails: true,
-        ..SOUND
-    };
-    for (script, wanted) in [
-        ("", ""),
-        ("new", "ok\n"),
-        (SCRIPT, PRINTED),
-        ("new\nnew\n", "ok\nbad line\n"),
-        ("\n", "bad line\n"),
-    ] {
-        check_run(
-            &rt,
-            rt.alloc(),
-            way,
-            &[],
-            script.as_bytes(),
-            wanted.as_bytes(),
-            Status::Failed,
-        )?;
-    }
-    check_run(
-        &rt,
-        rt.alloc(),
-        way,
-        &["threads"],
-        b"",
-        USAGE.as_bytes(),
-        Status::Failed,
-    )
+    Ok(())
 }
 
 // On a full device the run fails when it flushes what it printed.
 #[test]
 fn a_full_device_fails_the_run(rt: HostRuntime) -> Result<(), Fail> {
-    let device = fs::create(&rt, "/dev/full")?;
-    let mut writer = BufWriter::new(rt.alloc(), device)?;
-    let reports = &mut Vec::new(rt.alloc());
-    let status = run_program(rt.alloc(), &[], SCRIPT.as_bytes(), &mut writer, reports);
+    let mut writer = BufWriter::new(rt.alloc(), fs::create(&rt, "/dev/full")?)?;
+    let script = b"new\n".as_slice();
+    let status = run_program(rt.alloc(), &[], script, &mut writer, &mut io::sink());
     assert_eq!(rt; status, Status::Failed);
-    assert_eq!(rt; status.code(), 1);
     Ok(())
 }
-
-const BROKEN: [Row; 8] = [
-    ("", "", Status::Failed),
-    ("ne", "", Status::Failed),
-    ("new\n", "ok\n", Status::Failed),
-    ("new\ninsert 1 a\nget 1", "ok\nok\n", Status::Failed),
-    (
-        "new\ninsert 1 a\nget 1\n",
-        "ok\nok\nsome a\n",
-        Status::Failed,
-    ),
-    ("new\n\n", "ok\nbad line\n", Status::Failed),
-    // A bad first line ends the run at once.
-    ("\n", "bad line\n", Status::Bad),
-    ("new new\n", "bad line\n", Status::Bad),
-];
 
 // A reader that fails fails the run, after the lines that were read.
 #[test]
 fn a_broken_reader_fails_the_run(rt: HostRuntime) -> Result<(), Fail> {
-    for (script, wanted, status) in BROKEN {
+    for (script, wanted, status) in [
+        ("", "", Status::Failed),
+        ("ne", "", Status::Failed),
+        ("new\n", "ok\n", Status::Failed),
+        ("new\ninsert 1 a\nget 1", "ok\nok\n", Status::Failed),
+        ("new\nget 1\nget 1\n", "ok\nnone\nnone\n", Status::Failed),
+        ("new\n\n", "ok\nbad line\n", Status::Failed),
+        // A bad first line ends the run at once.
+        ("\n", "bad line\n", Status::Bad),
+        ("new new\n", "bad line\n", Status::Bad),
+    ] {
         for piece in [1, 7, 4096] {
-            let way = Way {
-                piece,
-                breaks: true,
-                ..SOUND
-            };
-            check_run(
-                &rt,
-                rt.alloc(),
-                way,
-                &[],
-                script.as_bytes(),
-                wanted.as_bytes(),
-                status,
-            )?;
+            let rest = script.as_bytes().chain(Broken);
+            let reader = BufReader::with_capacity(rt.alloc(), piece, rest)?;
+            let mut printed = Vec::new(rt.alloc());
+            let ended = run_program(rt.alloc(), &[], reader, &mut printed, &mut io::sink());
+            assert_eq!(rt; ended, status, "of {script:?} in pieces of {piece}");
+            assert_eq!(rt; printed.as_slice(), wanted.as_bytes(), "of {script:?}");
         }
+    }
+    Ok(())
+}
+
+// Arguments are answered before anything is read.
+#[test]
+fn no_argument_has_a_script_read(rt: HostRuntime) -> Result<(), Fail> {
+    for (word, status) in [
+        ("threads", Status::Bad),
+        ("--help", Status::Done),
+        ("--version", Status::Done),
+    ] {
+        let arguments = [String::from_str(rt.alloc(), word)?];
+        let reader = BufReader::new(rt.alloc(), Broken)?;
+        let (printed, reports) = (&mut io::sink(), &mut io::sink());
+        let ended = run_program(rt.alloc(), &arguments, reader, printed, reports);
+        assert_eq!(rt; ended, status, "of {word}");
+    }
+    Ok(())
+}
+
+// A report that cannot be written changes neither what is printed nor the status.
+#[test]
+fn a_report_that_cannot_be_written_is_dropped(rt: HostRuntime) -> Result<(), Fail> {
+    for room in [0, 10] {
+        let mut printed = Vec::new(rt.alloc());
+        let mut reports = Sink::new(rt.alloc(), room);
+        let script = b"new\nnew\nhas 1\nnew\n".as_slice();
+        let status = run_program(rt.alloc(), &[], script, &mut printed, &mut reports);
+        assert_eq!(rt; status, Status::Bad);
+        let wanted = b"ok\nbad line\nfalse\nbad line\n";
+        assert_eq!(rt; printed.as_slice(), wanted.as_slice());
+        assert_eq!(rt; reports.taken.len(), room);
+    }
+    Ok(())
+}
+
+// What the program prints only where memory is refused, and what it never prints, has its line.
+#[test]
+fn refusals_have_their_lines(rt: HostRuntime) -> Result<(), Fail> {
+    let no_memory = PredicateError::OutOfMemory;
+    for (output, line) in [
+        (OutputLine::Refused(Refused::OutOfMemory), "refused 1\n"),
+        (OutputLine::Refused(Refused::TurnIsOpen), "refused 5\n"),
+        (OutputLine::NotHidden(no_memory), "error 2\n"),
+    ] {
+        let mut written = Vec::new(rt.alloc());
+        write_line(&mut written, &output)?;
+        assert_eq!(rt; written.as_slice(), line.as_bytes(), "of {line:?}");
     }
     Ok(())
 }

@@ -1,29 +1,8 @@
-//! The tests of the program, over whole runs.
-//!
-//! Almost all are tables: a script, what it prints, and how it ends. `runs` says how a row is run.
+//! What no case of `mokabox` shows: readers and writers that fail, memory that is refused, and
+//! threads that meet. All else of the program is in its `cases/`.
 #![tactic(auto)]
 
 #[cfg(test)]
 mod failures;
-#[cfg(test)]
-mod hiding;
-#[cfg(test)]
-mod limits;
-#[cfg(test)]
-mod lines;
-#[cfg(test)]
-mod or_inserts;
-#[cfg(test)]
-mod output_lines;
-#[cfg(test)]
-mod reports;
-#[cfg(test)]
-mod runs;
-#[cfg(test)]
-mod scripts;
-#[cfg(test)]
-mod segments;
-#[cfg(test)]
-mod turns;
 #[cfg(test)]
 mod workers;
