@@ -72,6 +72,8 @@ pub(crate) struct Load {
     pub flush_limit: Option<u64>,
     /// How many turns of other keys are open.
     pub open_turns: u64,
+    /// The initial capacity.
+    pub initial_capacity: usize,
 }
 
 /// 100,000 of about a million keys.
@@ -84,6 +86,7 @@ const LOOKS: Load = Load {
     life: Life::Endless,
     flush_limit: None,
     open_turns: 0,
+    initial_capacity: 0,
 };
 
 const INSERTS: Load = Load {
@@ -236,6 +239,43 @@ pub(crate) const LOADS: [Load; 10] = [
         ..HITS
     },
 ];
+
+/// The capacities of full caches that have room for all of their entries from the beginning.
+const ROOMY: [u32; 5] = [1_000, 1_085, 20_000, 147_000, 1_000_000];
+
+/// Returns the load with a number: first those of `LOADS`. Behind them come inserts of new keys
+/// into a full cache with an initial capacity, at each capacity without a lifetime and with one.
+pub(crate) fn numbered(number: usize) -> Option<Load> {
+    match number.checked_sub(LOADS.len()) {
+        None => LOADS.get(number).copied(),
+        Some(place) => {
+            let capacity = *ROOMY.get(place / 2)?;
+            Some(with_room(capacity, place % 2 == 1))
+        }
+    }
+}
+
+/// Returns inserts of new keys into a full cache whose initial capacity is its capacity and a flush
+/// more. A lifetime is as many calls as the capacity.
+fn with_room(capacity: u32, has_life: bool) -> Load {
+    let life = if has_life {
+        Life::ToLive(u64::from(capacity))
+    } else {
+        Life::Endless
+    };
+    Load {
+        name: if has_life {
+            "new keys, a time to live"
+        } else {
+            "new keys"
+        },
+        kind: Kind::Replace,
+        capacity,
+        life,
+        initial_capacity: (capacity as usize).saturating_add(65),
+        ..LOOKS
+    }
+}
 
 /// Returns lookups and overwrites with and without lifetimes, at a capacity. Each lifetime is as
 /// many calls as the capacity, so that about as many entries expire as are evicted for size.

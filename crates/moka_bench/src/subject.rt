@@ -206,7 +206,7 @@ impl<H: BuildHasher + Default + Drop, F: FrequencySource, R: RowStore<u64, u64>,
         }
         let settings = Settings {
             name: None,
-            initial_capacity: 0,
+            initial_capacity: load.initial_capacity,
             time_to_live,
             time_to_idle,
             max_capacity: Some(u64::from(load.capacity)),

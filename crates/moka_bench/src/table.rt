@@ -1,6 +1,7 @@
 //! The tables that are printed.
 use crate::load::{
-    COMPUTES, FIRST, KNOWN, LIMITS, LOADS, Load, NEW, OR_INSERT, SIZES, SMALL, WALKS, with_lives,
+    COMPUTES, FIRST, KNOWN, LIMITS, LOADS, Load, NEW, OR_INSERT, SIZES, SMALL, WALKS, numbered,
+    with_lives,
 };
 use crate::measure::{Hashing, Outcome, Which, measure_load};
 use crate::removals;
@@ -334,10 +335,10 @@ fn print_one<R: Runtime + Wait + Copy>(
         Some(named) => *named,
         None => (Which::Nothing, Hashing::Fold, "no cache"),
     };
-    let Some(load) = LOADS.get(load) else {
+    let Some(load) = numbered(load) else {
         return print_usage(rt);
     };
-    let load = Load { calls, ..*load };
+    let load = Load { calls, ..load };
     let keys = load.keys(alloc)?;
     let outcome = measure_load(rt, alloc, which, hashing, &load, keys.as_slice())?;
     let status = fs::read_to_string(rt, "/proc/self/status")?;
