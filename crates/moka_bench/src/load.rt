@@ -245,13 +245,29 @@ const ROOMY: [u32; 5] = [1_000, 1_085, 20_000, 147_000, 1_000_000];
 
 /// Returns the load with a number: first those of `LOADS`. Behind them come inserts of new keys
 /// into a full cache with an initial capacity, at each capacity without a lifetime and with one.
+/// The last three are of 1,000,000 entries: with a flush limit of 1, and where all entries that are
+/// stored at first expire at once, without a flush limit and with one.
 pub(crate) fn numbered(number: usize) -> Option<Load> {
-    match number.checked_sub(LOADS.len()) {
-        None => LOADS.get(number).copied(),
-        Some(place) => {
-            let capacity = *ROOMY.get(place / 2)?;
-            Some(with_room(capacity, place % 2 == 1))
-        }
+    let Some(place) = number.checked_sub(LOADS.len()) else {
+        return LOADS.get(number).copied();
+    };
+    if let Some(capacity) = ROOMY.get(place / 2) {
+        return Some(with_room(*capacity, place % 2 == 1));
+    }
+    let full = with_room(1_000_000, false);
+    let life = Life::ToLive(1_000);
+    match place {
+        10 => Some(Load {
+            flush_limit: Some(1),
+            ..full
+        }),
+        11 => Some(Load { life, ..full }),
+        12 => Some(Load {
+            life,
+            flush_limit: Some(1),
+            ..full
+        }),
+        _ => None,
     }
 }
 
@@ -323,48 +339,6 @@ pub(crate) const WALKS: [Load; 1] = [Load {
     capacity: 1_000_000,
     ..LOOKS
 }];
-
-/// Inserts into a full cache.
-const FULL: Load = Load {
-    name: "full",
-    kind: Kind::Replace,
-    capacity: 1_000_000,
-    calls: 1_000,
-    ..LOOKS
-};
-
-/// The same, where all entries of the cache have expired when the measurement begins.
-const EXPIRED: Load = Load {
-    name: "expired",
-    life: Life::ToLive(1_000),
-    ..FULL
-};
-
-/// The loads on which flush limits are measured.
-pub(crate) const LIMITS: [Load; 6] = [
-    FULL,
-    Load {
-        name: "full, flush limit 8",
-        flush_limit: Some(8),
-        ..FULL
-    },
-    Load {
-        name: "full, flush limit 1",
-        flush_limit: Some(1),
-        ..FULL
-    },
-    EXPIRED,
-    Load {
-        name: "expired, flush limit 8",
-        flush_limit: Some(8),
-        ..EXPIRED
-    },
-    Load {
-        name: "expired, flush limit 1",
-        flush_limit: Some(1),
-        ..EXPIRED
-    },
-];
 
 /// The capacities at which lifetimes are measured, each with the octaves of its keys.
 pub(crate) const SIZES: [(u32, u32); 3] = [(10_000, 17), (100_000, 20), (1_000_000, 24)];

@@ -19,8 +19,6 @@ pub(crate) enum Which {
     Map,
     /// Ours, with LRU.
     Lru,
-    /// The same, of which the longest call is measured.
-    Slowest,
     /// Ours, with TinyLFU by a table of `2^20` counters.
     Table,
     /// Ours, with TinyLFU by a sketch that has about twice as many counters in a row as entries
@@ -44,7 +42,7 @@ pub(crate) enum Hashing {
 /// The result of a run.
 #[derive(Clone, Copy)]
 pub(crate) struct Outcome {
-    /// The time of the measured calls, or of the longest of them, in nanoseconds.
+    /// The time of the measured calls, in nanoseconds.
     pub nanos: u64,
     /// How many of the measured lookups found their key.
     pub hits: u64,
@@ -79,7 +77,6 @@ fn measure_with_hasher<H: BuildHasher + Default + Drop, R: Wait + Clock + Copy>(
         Which::Theirs => time_load::<Theirs<H, R>, R>(rt, alloc, lru, load, keys),
         Which::Map => time_load::<Unbounded<R>, R>(rt, alloc, lru, load, keys),
         Which::Lru => time_load::<Ours<H, NoFrequency>, R>(rt, alloc, lru, load, keys),
-        Which::Slowest => time_slowest::<Ours<H, NoFrequency>, R>(rt, alloc, lru, load, keys),
         Which::Table => time_load::<Ours<H, CountTable<20>>, R>(rt, alloc, tiny_lfu, load, keys),
         Which::Sketch => measure_sketch::<H, R>(rt, alloc, load, keys),
         Which::Segment => time_load::<InSegments<H, 1>, R>(rt, alloc, lru, load, keys),
@@ -135,48 +132,49 @@ fn time_load_on<S: Subject>(
     Ok(Outcome { nanos, hits })
 }
 
-/// Does the same, but times the longest call of the second half. The clock is read before and after
-/// each call.
-fn time_slowest<S: Create<R>, R: Clock + Copy>(
+/// Creates a cache with LRU, and brings it to the state in which a load begins. Times each call of
+/// the load, and returns the nanoseconds, sorted.
+pub(crate) fn time_each<R: Wait + Clock + Copy>(
     rt: &R,
     alloc: Global,
-    policy: EvictionPolicy,
+    hashing: Hashing,
     load: &Load,
     keys: &[u64],
-) -> io::Result<Outcome> {
-    let mut subject = S::create(alloc, load, policy, *rt)?;
-    time_slowest_on(rt, &mut subject, load, keys)
-}
-
-fn time_slowest_on<S: Subject>(
-    rt: &impl Clock,
-    subject: &mut S,
-    load: &Load,
-    keys: &[u64],
-) -> io::Result<Outcome> {
-    let (before, measured) = keys.split_at(keys.len() / 2);
-    prepare(subject, load, before)?;
-    let (mut nanos, mut hits) = (0, 0_u64);
-    for (place, key) in measured.iter().enumerate() {
-        let now = before.len().wrapping_add(place);
-        let one = time_call(rt, subject, load.kind, *key, now)?;
-        hits = hits.wrapping_add(one.hits);
-        nanos = one.nanos.max(nanos);
+) -> io::Result<Vec<u64>> {
+    match hashing {
+        Hashing::Sip => time_each_of::<Ours<BuildHasherDefault<DefaultHasher>, NoFrequency>, R>(
+            rt, alloc, load, keys,
+        ),
+        Hashing::Fold => time_each_of::<Ours<Fold, NoFrequency>, R>(rt, alloc, load, keys),
     }
-    Ok(Outcome { nanos, hits })
 }
 
-fn time_call<S: Subject>(
+fn time_each_of<S: Create<R>, R: Clock + Copy>(
+    rt: &R,
+    alloc: Global,
+    load: &Load,
+    keys: &[u64],
+) -> io::Result<Vec<u64>> {
+    let mut subject = S::create(alloc, load, EvictionPolicy::lru(), *rt)?;
+    time_each_on(rt, alloc, &mut subject, load, keys)
+}
+
+fn time_each_on<S: Subject>(
     rt: &impl Clock,
+    alloc: Global,
     subject: &mut S,
-    kind: Kind,
-    key: u64,
-    now: usize,
-) -> io::Result<Outcome> {
-    let begun = Instant::now(rt)?;
-    let hits = hits_of(subject, kind, &[key], now)?;
-    let nanos = nanos_since(rt, begun)?;
-    Ok(Outcome { nanos, hits })
+    load: &Load,
+    keys: &[u64],
+) -> io::Result<Vec<u64>> {
+    prepare(subject, load, &[])?;
+    let mut nanos = Vec::with_capacity(alloc, keys.len())?;
+    for (now, key) in keys.iter().enumerate() {
+        let begun = Instant::now(rt)?;
+        hits_of(subject, load.kind, &[*key], now)?;
+        nanos.push(nanos_since(rt, begun)?)?;
+    }
+    nanos.sort_unstable();
+    Ok(nanos)
 }
 
 /// Returns the nanoseconds since a moment.

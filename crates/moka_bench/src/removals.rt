@@ -1,5 +1,5 @@
 //! What removals cost: of single keys, and of all entries at once.
-use crate::load::{Kind, Life, Load, SMALL};
+use crate::load::{Kind, Load, SMALL};
 use crate::measure::{nanos_since, prepare};
 use crate::subject::{Clearable, Create, Everything, Fold, Ours};
 use crate::table::{median, share};
@@ -24,10 +24,6 @@ pub(crate) enum Removal {
     InvalidateIf,
     /// The maintenance after `invalidate_all`, which queues a notice for each entry.
     Sweep,
-    /// The maintenance after all entries have expired.
-    Expired,
-    /// The same in slices of at most a hundred evictions.
-    Slices,
 }
 
 /// Removals side by side, each with its name.
@@ -37,12 +33,6 @@ pub(crate) const REMOVALS: [(Removal, &str); 5] = [
     (Removal::InvalidateAll, "`invalidate_all`"),
     (Removal::InvalidateIf, "by a predicate"),
     (Removal::Sweep, "the sweep behind"),
-];
-
-/// A maintenance beside the same in slices.
-pub(crate) const SWEEPS: [(Removal, &str); 2] = [
-    (Removal::Expired, "a sweep of expired rows"),
-    (Removal::Slices, "in slices of 100"),
 ];
 
 /// The numbers of entries in the caches.
@@ -89,21 +79,16 @@ fn time_of<R: Clock + Copy>(
 }
 
 /// Creates a cache of so many resident entries with LRU, with nothing pending and no notice, and
-/// times a removal. Entries that are to expire have done so at moment 1.
+/// times a removal.
 fn time_removal<S: Clearable + Create<R>, R: Clock + Copy>(
     rt: &R,
     alloc: Global,
     removal: Removal,
     rows: u32,
 ) -> io::Result<u64> {
-    let life = match removal {
-        Removal::Expired | Removal::Slices => Life::ToLive(1),
-        _ => Life::Endless,
-    };
     let load = Load {
         kind: Kind::Hit,
         capacity: rows,
-        life,
         ..SMALL
     };
     let mut filled = S::create(alloc, &load, EvictionPolicy::lru(), *rt)?;
@@ -137,19 +122,9 @@ fn remove_all<S: Clearable>(
         Removal::Invalidate | Removal::Remove => remove_each(filled, removal, u64::from(rows))?,
         Removal::InvalidateAll => filled.invalidate_all(),
         Removal::InvalidateIf => filled.invalidate_if(predicate)?,
-        Removal::Sweep | Removal::Expired => filled.settle(1),
-        Removal::Slices => sweep_in_slices(filled, rows),
+        Removal::Sweep => filled.settle(1),
     }
     Ok(())
-}
-
-/// Runs the maintenance of moment 1 in slices, of which there are no more than entries.
-fn sweep_in_slices<S: Clearable>(filled: &mut S, rows: u32) {
-    for _ in 0..rows {
-        if !filled.settle_up_to(100, 1) {
-            break;
-        }
-    }
 }
 
 /// Removes each key, in a scattered order: the factor shares no divisor with a power of ten.

@@ -77,9 +77,6 @@ pub(crate) trait Clearable: Subject {
 
     /// Invalidates all entries by a predicate that holds of each.
     fn invalidate_if(&mut self, predicate: Arc<Everything>) -> Result<(), AllocError>;
-
-    /// Runs a maintenance with at most `limit` evictions. Returns whether work is left.
-    fn settle_up_to(&mut self, limit: u64, now: u64) -> bool;
 }
 
 /// Holds of each value.
@@ -305,10 +302,6 @@ impl<H: BuildHasher + Default + Drop, F: FrequencySource, R: RowStore<u64, u64>>
             Ok(()) => Ok(()),
             Err(_) => Err(AllocError),
         }
-    }
-
-    fn settle_up_to(&mut self, limit: u64, now: u64) -> bool {
-        self.cache.run_pending_tasks_up_to(limit, now)
     }
 }
 

@@ -1,11 +1,10 @@
 //! The tables that are printed.
 use crate::load::{
-    COMPUTES, FIRST, KNOWN, LIMITS, LOADS, Load, NEW, OR_INSERT, SIZES, SMALL, WALKS, numbered,
-    with_lives,
+    COMPUTES, FIRST, KNOWN, LOADS, Load, NEW, OR_INSERT, SIZES, SMALL, WALKS, numbered, with_lives,
 };
-use crate::measure::{Hashing, Outcome, Which, measure_load};
+use crate::measure::{Hashing, Outcome, Which, measure_load, time_each};
 use crate::removals;
-use crate::removals::{REMOVALS, SWEEPS};
+use crate::removals::REMOVALS;
 use std::alloc::{AllocError, Global};
 use std::rt::Runtime;
 use std::sync::Wait;
@@ -48,12 +47,6 @@ const SEGMENTED: [Named; 3] = [
     (Which::Segments, Hashing::Fold, "16 segments"),
 ];
 
-/// What runs the loads with lifetimes and with limits: all calls, and the longest of them.
-const SLOWEST: [Named; 2] = [
-    (Which::Lru, Hashing::Fold, "all calls"),
-    (Which::Slowest, Hashing::Fold, "the longest call"),
-];
-
 /// The results of at most eight caches in one round, in their order.
 pub(crate) type Round = [Outcome; 8];
 
@@ -71,7 +64,6 @@ pub(crate) fn run<R: Runtime + Wait + Copy>(
         [word, number] => match (word.as_str(), number.parse::<usize>()) {
             ("times", Ok(rounds)) => print_times(rt, alloc, rounds, &LOADS, &CACHES),
             ("lives", Ok(rounds)) => print_lives(rt, alloc, rounds),
-            ("limits", Ok(rounds)) => print_limits(rt, alloc, rounds),
             ("removals", Ok(rounds)) => removals::run(rt, alloc, rounds, &REMOVALS),
             ("computes", Ok(rounds)) => print_calls(rt, alloc, rounds, &[&OR_INSERT, &COMPUTES]),
             ("initializers", Ok(rounds)) => print_calls(rt, alloc, rounds, &[&KNOWN, &NEW]),
@@ -86,6 +78,7 @@ pub(crate) fn run<R: Runtime + Wait + Copy>(
             calls.parse::<u32>(),
         ) {
             ("one", Ok(cache), Ok(load), Ok(calls)) => print_one(rt, alloc, cache, load, calls),
+            ("tails", Ok(cache), Ok(load), Ok(calls)) => print_tails(rt, alloc, cache, load, calls),
             _ => print_usage(rt),
         },
         _ => print_usage(rt),
@@ -94,7 +87,7 @@ pub(crate) fn run<R: Runtime + Wait + Copy>(
 
 fn print_usage(rt: &impl io::Print) -> io::Result<()> {
     println!(rt;
-        "usage: moka_bench [(times | computes | initializers | lives | limits | removals | segments | walks) ROUNDS | one CACHE LOAD CALLS]"
+        "usage: moka_bench [(times | computes | initializers | lives | removals | segments | walks) ROUNDS | (one | tails) CACHE LOAD CALLS]"
     )
 }
 
@@ -263,51 +256,13 @@ fn hits_at(load: &Load, rounds: &[Round], place: usize) -> u64 {
     }
 }
 
-/// The head of a table of loads on a cache with LRU.
-const LOAD_HEAD: &str =
-    "| load | capacity | ns a call | hits | slowest call, ns |\n|---|---|---|---|---|";
-
 /// Prints what lifetimes cost at each size.
 fn print_lives<R: Runtime + Wait + Copy>(rt: &R, alloc: Global, rounds: usize) -> io::Result<()> {
-    println!(rt; "{LOAD_HEAD}")?;
     for (capacity, octaves) in SIZES {
-        for load in with_lives(capacity, octaves) {
-            print_load(rt, alloc, rounds, &load)?;
-        }
+        println!(rt; "\ncapacity {capacity}:\n")?;
+        print_calls(rt, alloc, rounds, &[&with_lives(capacity, octaves)])?;
     }
     Ok(())
-}
-
-/// Prints what flush limits do for the slowest insert, and what maintenance in slices costs.
-fn print_limits<R: Runtime + Wait + Copy>(rt: &R, alloc: Global, rounds: usize) -> io::Result<()> {
-    println!(rt; "{LOAD_HEAD}")?;
-    for load in &LIMITS {
-        print_load(rt, alloc, rounds, load)?;
-    }
-    println!(rt; "")?;
-    removals::run(rt, alloc, rounds, &SWEEPS)
-}
-
-/// Prints what a call of a load takes, in nanoseconds, and the longest call: the medians of so many
-/// rounds.
-fn print_load<R: Runtime + Wait + Copy>(
-    rt: &R,
-    alloc: Global,
-    rounds: usize,
-    load: &Load,
-) -> io::Result<()> {
-    let all = rounds_of(rt, alloc, rounds, load, &SLOWEST)?;
-    let time = median_time(alloc, &all, 0)?;
-    let longest = median_time(alloc, &all, 1)?;
-    let hits = hits_at(load, &all, 0);
-    println!(rt;
-        "| {} | {} | {} | {}.{:03} | {longest} |",
-        load.name,
-        load.capacity,
-        share(time, 1, u64::from(load.calls)),
-        hits / 1_000,
-        hits % 1_000
-    )
 }
 
 /// Returns `number` times `parts` divided by `by`, or 0 if `by` is 0.
@@ -347,6 +302,33 @@ fn print_one<R: Runtime + Wait + Copy>(
         "{name}\t{}\t{}\t{}\t{peak}",
         load.name, outcome.nanos, outcome.hits
     )
+}
+
+/// Times each call of a load on a cache with LRU. Prints the names of both, and then the median, the
+/// 99th of a hundred and the slowest, in nanoseconds.
+fn print_tails<R: Runtime + Wait + Copy>(
+    rt: &R,
+    alloc: Global,
+    cache: usize,
+    load: usize,
+    calls: u32,
+) -> io::Result<()> {
+    let (Some((Which::Lru, hashing, name)), Some(load)) = (CACHES.get(cache), numbered(load)) else {
+        return print_usage(rt);
+    };
+    let load = Load { calls, ..load };
+    let keys = load.keys(alloc)?;
+    let nanos = time_each(rt, alloc, *hashing, &load, keys.as_slice())?;
+    let places = [
+        nanos.len() / 2,
+        (nanos.len() / 100).wrapping_mul(99),
+        nanos.len().wrapping_sub(1),
+    ];
+    print!(rt; "{name}\t{}", load.name)?;
+    for place in places {
+        print!(rt; "\t{}", nanos.get(place).copied().unwrap_or(0))?;
+    }
+    println!(rt; "")
 }
 
 /// Returns the number in the line of the peak, as the system writes it for a process.
