@@ -1,21 +1,23 @@
 //! Measures one cache on one load.
 use crate::load::{Kind, Load};
-use crate::segments::InSegments;
-use crate::subject::{Create, Fold, Nothing, Ours, Subject, Theirs, Unbounded};
+use crate::shared::{LockedLru, LockedMap, OneLock, Segments, Unshared};
+use crate::subject::{Create, Fold, Nothing, Ours, Subject};
+use crate::threads::time_threads;
 use moka::policy::{CountTable, EvictionPolicy, FrequencySketch};
 use moka::ready::NoFrequency;
 use std::alloc::{AllocError, Global};
 use std::hash::{BuildHasher, BuildHasherDefault, DefaultHasher};
 use std::io;
 use std::sync::Wait;
+use std::thread::Threads;
 use std::time::{Clock, Instant};
 
 /// The cache that is measured.
 #[derive(Clone, Copy)]
 pub(crate) enum Which {
-    /// The kit's `lru`.
+    /// The kit's `lru`, under one lock.
     Theirs,
-    /// A map without a bound, with `FoldHasher`.
+    /// A map without a bound, under one lock, with `FoldHasher`.
     Map,
     /// Ours, with LRU.
     Lru,
@@ -24,9 +26,9 @@ pub(crate) enum Which {
     /// Ours, with TinyLFU by a sketch that has about twice as many counters in a row as entries
     /// fit.
     Sketch,
-    /// Ours with one segment, with LRU.
-    Segment,
-    /// The same with sixteen segments.
+    /// Ours, shared and under one lock, with LRU and `FoldHasher`.
+    OneLock,
+    /// The same with sixteen segments, each under a lock.
     Segments,
     /// No cache, to measure the loop by itself.
     Nothing,
@@ -39,29 +41,52 @@ pub(crate) enum Hashing {
     Fold,
 }
 
+/// SipHash with fixed keys.
+type Sip = BuildHasherDefault<DefaultHasher>;
+
 /// The result of a run.
 #[derive(Clone, Copy)]
 pub(crate) struct Outcome {
     /// The time of the measured calls, in nanoseconds.
     pub nanos: u64,
-    /// How many of the measured lookups found their key.
+    /// How many of the measured calls found their key.
     pub hits: u64,
 }
 
-/// Creates a cache and runs a load on it.
-pub(crate) fn measure_load<R: Wait + Clock + Copy>(
+/// Creates a cache and runs a load on it, by so many threads, or by no other thread than this.
+pub(crate) fn measure_load<R: Wait + Clock + Threads + Copy + Send + Sync>(
     rt: &R,
     alloc: Global,
     which: Which,
     hashing: Hashing,
+    threads: usize,
     load: &Load,
     keys: &[u64],
 ) -> io::Result<Outcome> {
+    if threads > 0 {
+        return measure_by_threads(rt, alloc, which, threads, load, keys);
+    }
     match hashing {
-        Hashing::Sip => measure_with_hasher::<BuildHasherDefault<DefaultHasher>, R>(
-            rt, alloc, which, load, keys,
-        ),
+        Hashing::Sip => measure_with_hasher::<Sip, R>(rt, alloc, which, load, keys),
         Hashing::Fold => measure_with_hasher::<Fold, R>(rt, alloc, which, load, keys),
+    }
+}
+
+/// Does so by threads, on a cache with `FoldHasher`. One that cannot be shared is not measured.
+fn measure_by_threads<R: Wait + Clock + Threads + Copy + Send + Sync>(
+    rt: &R,
+    alloc: Global,
+    which: Which,
+    threads: usize,
+    load: &Load,
+    keys: &[u64],
+) -> io::Result<Outcome> {
+    match which {
+        Which::Theirs => time_threads::<LockedLru<Fold, R>, R>(rt, alloc, threads, load, keys),
+        Which::Map => time_threads::<LockedMap<R>, R>(rt, alloc, threads, load, keys),
+        Which::OneLock => time_threads::<OneLock<R>, R>(rt, alloc, threads, load, keys),
+        Which::Segments => time_threads::<Segments<R>, R>(rt, alloc, threads, load, keys),
+        _ => Ok(Outcome { nanos: 0, hits: 0 }),
     }
 }
 
@@ -74,13 +99,13 @@ fn measure_with_hasher<H: BuildHasher + Default + Drop, R: Wait + Clock + Copy>(
 ) -> io::Result<Outcome> {
     let (lru, tiny_lfu) = (EvictionPolicy::lru(), EvictionPolicy::tiny_lfu());
     match which {
-        Which::Theirs => time_load::<Theirs<H, R>, R>(rt, alloc, lru, load, keys),
-        Which::Map => time_load::<Unbounded<R>, R>(rt, alloc, lru, load, keys),
+        Which::Theirs => time_load::<Unshared<LockedLru<H, R>>, R>(rt, alloc, lru, load, keys),
+        Which::Map => time_load::<Unshared<LockedMap<R>>, R>(rt, alloc, lru, load, keys),
+        Which::OneLock => time_load::<Unshared<OneLock<R>>, R>(rt, alloc, lru, load, keys),
+        Which::Segments => time_load::<Unshared<Segments<R>>, R>(rt, alloc, lru, load, keys),
         Which::Lru => time_load::<Ours<H, NoFrequency>, R>(rt, alloc, lru, load, keys),
         Which::Table => time_load::<Ours<H, CountTable<20>>, R>(rt, alloc, tiny_lfu, load, keys),
         Which::Sketch => measure_sketch::<H, R>(rt, alloc, load, keys),
-        Which::Segment => time_load::<InSegments<H, 1>, R>(rt, alloc, lru, load, keys),
-        Which::Segments => time_load::<InSegments<H, 16>, R>(rt, alloc, lru, load, keys),
         Which::Nothing => time_load::<Nothing, R>(rt, alloc, lru, load, keys),
     }
 }
@@ -200,7 +225,9 @@ pub(crate) fn prepare<S: Subject>(
         }
         subject.settle(0);
     }
-    hits_of(subject, load.kind, before, 0)?;
+    if !matches!(load.kind, Kind::Once(_) | Kind::Gone(_)) {
+        hits_of(subject, load.kind, before, 0)?;
+    }
     Ok(())
 }
 
@@ -212,8 +239,9 @@ fn hits_of<S: Subject>(
     keys: &[u64],
     first: usize,
 ) -> Result<u64, AllocError> {
-    if kind == Kind::Walk {
-        return subject.walk(keys.len(), first as u64);
+    if let Kind::Once(call) = kind {
+        subject.call(call, 0, first as u64)?;
+        return Ok(0);
     }
     let mut hits = 0_u64;
     for (place, key) in keys.iter().enumerate() {
@@ -226,7 +254,7 @@ fn hits_of<S: Subject>(
 
 /// Runs a key of a load. Returns whether it was looked up and found.
 fn is_hit<S: Subject>(subject: &mut S, kind: Kind, key: u64, now: u64) -> Result<bool, AllocError> {
-    if let Kind::Known(call) | Kind::New(call) = kind {
+    if let Kind::Known(call) | Kind::New(call) | Kind::Gone(call) = kind {
         subject.call(call, key, now)?;
         return Ok(false);
     }
