@@ -49,6 +49,7 @@ pub enum Kind {
     Insert,
     Hit,
     Overwrite,
+    Replace,
 }
 
 pub struct Load {
@@ -59,9 +60,9 @@ pub struct Load {
 }
 
 impl Load {
-    /// Whether each key of the load is stored at first.
+    /// Whether the cache is filled at first: with the keys of the load, or with others.
     pub fn has_all_stored(&self) -> bool {
-        matches!(self.kind, Kind::Hit | Kind::Overwrite)
+        matches!(self.kind, Kind::Hit | Kind::Overwrite | Kind::Replace)
     }
 }
 
@@ -79,6 +80,9 @@ pub static LOADS: [Load; 10] = [
     Load { name: "hits, capacity 1,000,000", kind: Kind::Hit, capacity: 1_000_000, octaves: 20 },
 ];
 
+/// Inserts of new keys into a full cache, and their number in `moka_bench`.
+static NEW_KEYS: (usize, Load) = (18, Load { name: "new keys", kind: Kind::Replace, capacity: 1_000_000, octaves: 20 });
+
 /// Returns the keys of the calls: first those that are not measured, and then as many that are.
 pub fn keys(load: &Load, calls: u32) -> Vec<u64> {
     let mut numbers = Numbers(20_261_123);
@@ -87,6 +91,7 @@ pub fn keys(load: &Load, calls: u32) -> Vec<u64> {
             Kind::Look => u64::from(numbers.skewed(load.octaves)),
             Kind::Insert => u64::from(call),
             Kind::Hit | Kind::Overwrite => u64::from(numbers.below(load.capacity)),
+            Kind::Replace => u64::from(load.capacity) + u64::from(call),
         })
         .collect()
 }
@@ -114,15 +119,43 @@ pub fn prepare<C: Shared>(cache: &C, load: &Load, before: &[u64]) {
     run(cache, load.kind, before);
 }
 
+/// What the arguments ask for.
+pub struct Asked {
+    pub cache: usize,
+    pub load: &'static Load,
+    calls: u32,
+    /// Whether each call is timed, and not all together.
+    tails: bool,
+}
+
 /// Runs a load on a cache, and prints what it took.
-pub fn measure<C: Shared>(name: &str, cache: C, load: &Load, calls: u32) {
-    let keys = keys(load, calls);
+pub fn measure<C: Shared>(name: &str, cache: C, asked: &Asked) {
+    let load = asked.load;
+    let keys = keys(load, asked.calls);
+    if asked.tails {
+        prepare(&cache, load, &[]);
+        let nanos = time_each(&cache, load, &keys);
+        let [half, tail, slowest] = [nanos.len() / 2, nanos.len() / 100 * 99, nanos.len() - 1].map(|place| nanos[place]);
+        return println!("{name}\t{}\t{half}\t{tail}\t{slowest}", load.name);
+    }
     let (before, measured) = keys.split_at(keys.len() / 2);
     prepare(&cache, load, before);
     let begun = Instant::now();
     let hits = run(&cache, load.kind, measured);
     let nanos = begun.elapsed().as_nanos();
     println!("{name}\t{}\t{nanos}\t{hits}\t{}", load.name, peak());
+}
+
+/// Runs keys of a load. Returns the nanoseconds that each took, sorted.
+fn time_each<C: Shared>(cache: &C, load: &Load, keys: &[u64]) -> Vec<u128> {
+    let mut nanos = Vec::with_capacity(keys.len());
+    for key in keys {
+        let begun = Instant::now();
+        run(cache, load.kind, &[*key]);
+        nanos.push(begun.elapsed().as_nanos());
+    }
+    nanos.sort_unstable();
+    nanos
 }
 
 /// Returns the most memory that the process used, in KiB.
@@ -132,14 +165,16 @@ fn peak() -> String {
     line.map_or("unknown", |rest| rest.trim_end_matches("kB").trim()).to_owned()
 }
 
-/// Returns what the arguments `one CACHE LOAD CALLS` ask for.
-pub fn asked(arguments: &[String]) -> Option<(usize, &'static Load, u32)> {
+/// Returns what the arguments `one CACHE LOAD CALLS` or `tails CACHE LOAD CALLS` ask for.
+pub fn asked(arguments: &[String]) -> Option<Asked> {
     let [word, cache, load, calls] = arguments else {
         return None;
     };
-    if word != "one" {
+    let tails = word == "tails";
+    if !tails && word != "one" {
         return None;
     }
-    let load = LOADS.get(load.parse::<usize>().ok()?)?;
-    Some((cache.parse().ok()?, load, calls.parse().ok()?))
+    let number = load.parse::<usize>().ok()?;
+    let load = if number == NEW_KEYS.0 { &NEW_KEYS.1 } else { LOADS.get(number)? };
+    Some(Asked { cache: cache.parse().ok()?, load, calls: calls.parse().ok()?, tails })
 }

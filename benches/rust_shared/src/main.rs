@@ -135,13 +135,14 @@ fn print_table(rounds: usize, threads: usize) {
 
 fn main() -> ExitCode {
     let arguments: Vec<String> = env::args().skip(1).collect();
-    if let Some((cache, load, calls)) = asked(&arguments) {
-        match cache {
-            0 => measure("from Rust, LRU", shared(load, Policy::Lru), load, calls),
-            1 => measure("from Rust, TinyLFU", shared(load, Policy::TinyLfu), load, calls),
-            2 => measure("from Rust, LRU, segments", segments(load, Policy::Lru), load, calls),
-            3 => measure("from Rust, TinyLFU, segments", segments(load, Policy::TinyLfu), load, calls),
-            _ => measure("no cache", Nothing, load, calls),
+    if let Some(asked) = asked(&arguments) {
+        let load = asked.load;
+        match asked.cache {
+            0 => measure("from Rust, LRU", shared(load, Policy::Lru), &asked),
+            1 => measure("from Rust, TinyLFU", shared(load, Policy::TinyLfu), &asked),
+            2 => measure("from Rust, LRU, segments", segments(load, Policy::Lru), &asked),
+            3 => measure("from Rust, TinyLFU, segments", segments(load, Policy::TinyLfu), &asked),
+            _ => measure("no cache", Nothing, &asked),
         }
         return ExitCode::SUCCESS;
     }
@@ -153,7 +154,7 @@ fn main() -> ExitCode {
             }
             _ => eprintln!("ROUNDS is a number from 1 on, and not {rounds}"),
         },
-        _ => eprintln!("usage: rust_shared one CACHE LOAD CALLS, or threads ROUNDS"),
+        _ => eprintln!("usage: rust_shared (one | tails) CACHE LOAD CALLS, or threads ROUNDS"),
     }
     ExitCode::FAILURE
 }

@@ -1,34 +1,34 @@
 //! Measures one cache on one load.
 use crate::load::{Kind, Load};
-use crate::segments::InSegments;
-use crate::subject::{Create, Fold, Nothing, Ours, Subject, Theirs, Unbounded};
+use crate::shared::{LockedLru, LockedMap, OneLock, Segments, Unshared};
+use crate::subject::{Create, Fold, Nothing, Ours, Subject};
+use crate::threads::time_threads;
 use moka::policy::{CountTable, EvictionPolicy, FrequencySketch};
 use moka::ready::NoFrequency;
 use std::alloc::{AllocError, Global};
 use std::hash::{BuildHasher, BuildHasherDefault, DefaultHasher};
 use std::io;
 use std::sync::Wait;
+use std::thread::Threads;
 use std::time::{Clock, Instant};
 
 /// The cache that is measured.
 #[derive(Clone, Copy)]
 pub(crate) enum Which {
-    /// The kit's `lru`.
+    /// The kit's `lru`, under one lock.
     Theirs,
-    /// A map without a bound, with `FoldHasher`.
+    /// A map without a bound, under one lock, with `FoldHasher`.
     Map,
     /// Ours, with LRU.
     Lru,
-    /// The same, of which the longest call is measured.
-    Slowest,
     /// Ours, with TinyLFU by a table of `2^20` counters.
     Table,
     /// Ours, with TinyLFU by a sketch that has about twice as many counters in a row as entries
     /// fit.
     Sketch,
-    /// Ours with one segment, with LRU.
-    Segment,
-    /// The same with sixteen segments.
+    /// Ours, shared and under one lock, with LRU and `FoldHasher`.
+    OneLock,
+    /// The same with sixteen segments, each under a lock.
     Segments,
     /// No cache, to measure the loop by itself.
     Nothing,
@@ -41,29 +41,52 @@ pub(crate) enum Hashing {
     Fold,
 }
 
+/// SipHash with fixed keys.
+type Sip = BuildHasherDefault<DefaultHasher>;
+
 /// The result of a run.
 #[derive(Clone, Copy)]
 pub(crate) struct Outcome {
-    /// The time of the measured calls, or of the longest of them, in nanoseconds.
+    /// The time of the measured calls, in nanoseconds.
     pub nanos: u64,
-    /// How many of the measured lookups found their key.
+    /// How many of the measured calls found their key.
     pub hits: u64,
 }
 
-/// Creates a cache and runs a load on it.
-pub(crate) fn measure_load<R: Wait + Clock + Copy>(
+/// Creates a cache and runs a load on it, by so many threads, or by no other thread than this.
+pub(crate) fn measure_load<R: Wait + Clock + Threads + Copy + Send + Sync>(
     rt: &R,
     alloc: Global,
     which: Which,
     hashing: Hashing,
+    threads: usize,
     load: &Load,
     keys: &[u64],
 ) -> io::Result<Outcome> {
+    if threads > 0 {
+        return measure_by_threads(rt, alloc, which, threads, load, keys);
+    }
     match hashing {
-        Hashing::Sip => measure_with_hasher::<BuildHasherDefault<DefaultHasher>, R>(
-            rt, alloc, which, load, keys,
-        ),
+        Hashing::Sip => measure_with_hasher::<Sip, R>(rt, alloc, which, load, keys),
         Hashing::Fold => measure_with_hasher::<Fold, R>(rt, alloc, which, load, keys),
+    }
+}
+
+/// Does so by threads, on a cache with `FoldHasher`. One that cannot be shared is not measured.
+fn measure_by_threads<R: Wait + Clock + Threads + Copy + Send + Sync>(
+    rt: &R,
+    alloc: Global,
+    which: Which,
+    threads: usize,
+    load: &Load,
+    keys: &[u64],
+) -> io::Result<Outcome> {
+    match which {
+        Which::Theirs => time_threads::<LockedLru<Fold, R>, R>(rt, alloc, threads, load, keys),
+        Which::Map => time_threads::<LockedMap<R>, R>(rt, alloc, threads, load, keys),
+        Which::OneLock => time_threads::<OneLock<R>, R>(rt, alloc, threads, load, keys),
+        Which::Segments => time_threads::<Segments<R>, R>(rt, alloc, threads, load, keys),
+        _ => Ok(Outcome { nanos: 0, hits: 0 }),
     }
 }
 
@@ -76,14 +99,13 @@ fn measure_with_hasher<H: BuildHasher + Default + Drop, R: Wait + Clock + Copy>(
 ) -> io::Result<Outcome> {
     let (lru, tiny_lfu) = (EvictionPolicy::lru(), EvictionPolicy::tiny_lfu());
     match which {
-        Which::Theirs => time_load::<Theirs<H, R>, R>(rt, alloc, lru, load, keys),
-        Which::Map => time_load::<Unbounded<R>, R>(rt, alloc, lru, load, keys),
+        Which::Theirs => time_load::<Unshared<LockedLru<H, R>>, R>(rt, alloc, lru, load, keys),
+        Which::Map => time_load::<Unshared<LockedMap<R>>, R>(rt, alloc, lru, load, keys),
+        Which::OneLock => time_load::<Unshared<OneLock<R>>, R>(rt, alloc, lru, load, keys),
+        Which::Segments => time_load::<Unshared<Segments<R>>, R>(rt, alloc, lru, load, keys),
         Which::Lru => time_load::<Ours<H, NoFrequency>, R>(rt, alloc, lru, load, keys),
-        Which::Slowest => time_slowest::<Ours<H, NoFrequency>, R>(rt, alloc, lru, load, keys),
         Which::Table => time_load::<Ours<H, CountTable<20>>, R>(rt, alloc, tiny_lfu, load, keys),
         Which::Sketch => measure_sketch::<H, R>(rt, alloc, load, keys),
-        Which::Segment => time_load::<InSegments<H, 1>, R>(rt, alloc, lru, load, keys),
-        Which::Segments => time_load::<InSegments<H, 16>, R>(rt, alloc, lru, load, keys),
         Which::Nothing => time_load::<Nothing, R>(rt, alloc, lru, load, keys),
     }
 }
@@ -135,48 +157,49 @@ fn time_load_on<S: Subject>(
     Ok(Outcome { nanos, hits })
 }
 
-/// Does the same, but times the longest call of the second half. The clock is read before and after
-/// each call.
-fn time_slowest<S: Create<R>, R: Clock + Copy>(
+/// Creates a cache with LRU, and brings it to the state in which a load begins. Times each call of
+/// the load, and returns the nanoseconds, sorted.
+pub(crate) fn time_each<R: Wait + Clock + Copy>(
     rt: &R,
     alloc: Global,
-    policy: EvictionPolicy,
+    hashing: Hashing,
     load: &Load,
     keys: &[u64],
-) -> io::Result<Outcome> {
-    let mut subject = S::create(alloc, load, policy, *rt)?;
-    time_slowest_on(rt, &mut subject, load, keys)
-}
-
-fn time_slowest_on<S: Subject>(
-    rt: &impl Clock,
-    subject: &mut S,
-    load: &Load,
-    keys: &[u64],
-) -> io::Result<Outcome> {
-    let (before, measured) = keys.split_at(keys.len() / 2);
-    prepare(subject, load, before)?;
-    let (mut nanos, mut hits) = (0, 0_u64);
-    for (place, key) in measured.iter().enumerate() {
-        let now = before.len().wrapping_add(place);
-        let one = time_call(rt, subject, load.kind, *key, now)?;
-        hits = hits.wrapping_add(one.hits);
-        nanos = one.nanos.max(nanos);
+) -> io::Result<Vec<u64>> {
+    match hashing {
+        Hashing::Sip => time_each_of::<Ours<BuildHasherDefault<DefaultHasher>, NoFrequency>, R>(
+            rt, alloc, load, keys,
+        ),
+        Hashing::Fold => time_each_of::<Ours<Fold, NoFrequency>, R>(rt, alloc, load, keys),
     }
-    Ok(Outcome { nanos, hits })
 }
 
-fn time_call<S: Subject>(
+fn time_each_of<S: Create<R>, R: Clock + Copy>(
+    rt: &R,
+    alloc: Global,
+    load: &Load,
+    keys: &[u64],
+) -> io::Result<Vec<u64>> {
+    let mut subject = S::create(alloc, load, EvictionPolicy::lru(), *rt)?;
+    time_each_on(rt, alloc, &mut subject, load, keys)
+}
+
+fn time_each_on<S: Subject>(
     rt: &impl Clock,
+    alloc: Global,
     subject: &mut S,
-    kind: Kind,
-    key: u64,
-    now: usize,
-) -> io::Result<Outcome> {
-    let begun = Instant::now(rt)?;
-    let hits = hits_of(subject, kind, &[key], now)?;
-    let nanos = nanos_since(rt, begun)?;
-    Ok(Outcome { nanos, hits })
+    load: &Load,
+    keys: &[u64],
+) -> io::Result<Vec<u64>> {
+    prepare(subject, load, &[])?;
+    let mut nanos = Vec::with_capacity(alloc, keys.len())?;
+    for (now, key) in keys.iter().enumerate() {
+        let begun = Instant::now(rt)?;
+        hits_of(subject, load.kind, &[*key], now)?;
+        nanos.push(nanos_since(rt, begun)?)?;
+    }
+    nanos.sort_unstable();
+    Ok(nanos)
 }
 
 /// Returns the nanoseconds since a moment.
@@ -202,7 +225,9 @@ pub(crate) fn prepare<S: Subject>(
         }
         subject.settle(0);
     }
-    hits_of(subject, load.kind, before, 0)?;
+    if !matches!(load.kind, Kind::Once(_) | Kind::Gone(_)) {
+        hits_of(subject, load.kind, before, 0)?;
+    }
     Ok(())
 }
 
@@ -214,8 +239,9 @@ fn hits_of<S: Subject>(
     keys: &[u64],
     first: usize,
 ) -> Result<u64, AllocError> {
-    if kind == Kind::Walk {
-        return subject.walk(keys.len(), first as u64);
+    if let Kind::Once(call) = kind {
+        subject.call(call, 0, first as u64)?;
+        return Ok(0);
     }
     let mut hits = 0_u64;
     for (place, key) in keys.iter().enumerate() {
@@ -228,7 +254,7 @@ fn hits_of<S: Subject>(
 
 /// Runs a key of a load. Returns whether it was looked up and found.
 fn is_hit<S: Subject>(subject: &mut S, kind: Kind, key: u64, now: u64) -> Result<bool, AllocError> {
-    if let Kind::Known(call) | Kind::New(call) = kind {
+    if let Kind::Known(call) | Kind::New(call) | Kind::Gone(call) = kind {
         subject.call(call, key, now)?;
         return Ok(false);
     }

@@ -5,7 +5,6 @@ ghost use Rattle.moka_bench.specs.OwnLives.{same_lives};
 
 use crate::load::{Call, Life, Load};
 use crate::own_lives::SameLives;
-use lru::LruCache;
 use moka::ops::compute::Op;
 use moka::policy::{
     CacheTypes, EvictionPolicy, FrequencySource, ManualClock, NoListener, NoWeigher, Predicate,
@@ -13,11 +12,9 @@ use moka::policy::{
 use moka::state::{ExpiringRows, Reply, RowStore, Settings, State, Step};
 use moka::sync::value_initializer::Kind as Turning;
 use std::alloc::{AllocError, Global};
-use std::collections::HashMap;
 use std::convert::Infallible;
 use std::hash::{BuildHasher, BuildHasherDefault, FoldHasher};
-use std::num::NonZeroUsize;
-use std::sync::{Arc, Mutex, Wait};
+use std::sync::Arc;
 use std::time::Duration;
 
 /// A cache of numbers that is measured. Each call of a load has its own moment.
@@ -28,22 +25,16 @@ pub(crate) trait Subject: Drop {
     /// Inserts a key.
     fn insert(&mut self, key: u64, now: u64) -> Result<(), AllocError>;
 
-    /// Runs the maintenance that the writes so far left to do.
-    fn settle(&mut self, now: u64);
-
-    /// Iterates over at most `pairs` pairs. Returns how many came: none if a cache has no
-    /// iteration.
-    fn walk(&mut self, _pairs: usize, _now: u64) -> Result<u64, AllocError> {
-        Ok(0)
-    }
+    /// Runs the maintenance that the writes so far left to do, if a cache has any.
+    fn settle(&mut self, _now: u64) {}
 
     /// Opens so many turns of keys that no load has, if a cache has turns.
     fn open(&mut self, _turns: u64) -> Result<(), AllocError> {
         Ok(())
     }
 
-    /// Makes this call about a key. A cache without such calls looks the key up, and inserts it if
-    /// it is not found.
+    /// Makes this call about a key, or about all keys. A cache without such calls looks the key up,
+    /// and inserts it if it is not found.
     fn call(&mut self, _call: Call, key: u64, now: u64) -> Result<(), AllocError> {
         if !self.look_up(key, now)? {
             self.insert(key, now)?;
@@ -62,24 +53,6 @@ pub(crate) trait Create<W>: Subject {
         policy: EvictionPolicy,
         waits: W,
     ) -> Result<Self, AllocError>;
-}
-
-/// A cache that can be emptied.
-pub(crate) trait Clearable: Subject {
-    /// Removes a key by `invalidate`, and takes its notice.
-    fn invalidate(&mut self, key: u64);
-
-    /// Removes a key by `remove`, and takes its notice.
-    fn remove(&mut self, key: u64) -> Result<(), AllocError>;
-
-    /// Invalidates all entries.
-    fn invalidate_all(&mut self);
-
-    /// Invalidates all entries by a predicate that holds of each.
-    fn invalidate_if(&mut self, predicate: Arc<Everything>) -> Result<(), AllocError>;
-
-    /// Runs a maintenance with at most `limit` evictions. Returns whether work is left.
-    fn settle_up_to(&mut self, limit: u64, now: u64) -> bool;
 }
 
 /// Holds of each value.
@@ -166,14 +139,6 @@ impl<H: BuildHasher + Drop, F: FrequencySource, R: RowStore<u64, u64>> OurRows<H
         }
     }
 
-    fn get_with(&mut self, key: u64, now: u64) -> bool {
-        self.cache.get_with(key, || key, now).is_ok()
-    }
-
-    fn or_insert(&mut self, key: u64, now: u64) -> bool {
-        self.cache.entry(key, now).or_insert(key).is_ok()
-    }
-
     fn get_and_insert(&mut self, key: u64, now: u64) -> bool {
         self.cache.get(&key, now).is_ok() && self.cache.insert(key, key, now).is_ok()
     }
@@ -186,6 +151,41 @@ impl<H: BuildHasher + Drop, F: FrequencySource, R: RowStore<u64, u64>> OurRows<H
     fn compute_with(&mut self, key: u64, now: u64) -> bool {
         let selector = self.cache.entry(key, now);
         selector.and_compute_with(move |_| Op::Put(key)).is_ok()
+    }
+
+    fn invalidate_all(&mut self) -> bool {
+        self.cache.invalidate_all();
+        true
+    }
+
+    fn invalidate_if(&mut self) -> bool {
+        match Arc::new(self.alloc, Everything) {
+            Ok(predicate) => self
+                .cache
+                .invalidate_entries_with_arc_fun(predicate)
+                .is_ok(),
+            Err(_) => false,
+        }
+    }
+
+    /// Invalidates all entries, and runs the maintenance behind it.
+    fn clear(&mut self, now: u64) -> bool {
+        self.cache.invalidate_all();
+        self.cache.run_pending_tasks(now);
+        true
+    }
+
+    /// Iterates over all pairs.
+    fn walk(&mut self, now: u64) -> bool {
+        let Ok(keys) = self.cache.scan_keys() else {
+            return false;
+        };
+        for key in keys {
+            if self.cache.scan_get(&*key, now).is_err() {
+                return false;
+            }
+        }
+        true
     }
 }
 
@@ -206,10 +206,10 @@ impl<H: BuildHasher + Default + Drop, F: FrequencySource, R: RowStore<u64, u64>,
         }
         let settings = Settings {
             name: None,
-            initial_capacity: 0,
+            initial_capacity: load.initial_capacity,
             time_to_live,
             time_to_idle,
-            max_capacity: Some(u64::from(load.capacity)),
+            max_capacity: Some(u64::from(load.room())),
             eviction_policy,
             weigher: None,
             expiry,
@@ -246,21 +246,6 @@ impl<H: BuildHasher + Default + Drop, F: FrequencySource, R: RowStore<u64, u64>>
         self.cache.run_pending_tasks(now);
     }
 
-    fn walk(&mut self, pairs: usize, now: u64) -> Result<u64, AllocError> {
-        let Ok(keys) = self.cache.scan_keys() else {
-            return Err(AllocError);
-        };
-        let mut yielded = 0_u64;
-        for key in keys.iter().take(pairs) {
-            match self.cache.scan_get(&**key, now) {
-                Ok(Some(_)) => yielded = yielded.wrapping_add(1),
-                Ok(None) => {}
-                Err(_) => return Err(AllocError),
-            }
-        }
-        Ok(yielded)
-    }
-
     fn open(&mut self, turns: u64) -> Result<(), AllocError> {
         for turn in 0..turns {
             self.open_turn(u64::MAX - turn)?;
@@ -270,136 +255,23 @@ impl<H: BuildHasher + Default + Drop, F: FrequencySource, R: RowStore<u64, u64>>
 
     fn call(&mut self, call: Call, key: u64, now: u64) -> Result<(), AllocError> {
         let is_done = match call {
-            Call::GetWith => self.get_with(key, now),
-            Call::OrInsert => self.or_insert(key, now),
+            Call::GetWith => self.cache.get_with(key, || key, now).is_ok(),
+            Call::OrInsert => self.cache.entry(key, now).or_insert(key).is_ok(),
             Call::GetAndInsert => self.get_and_insert(key, now),
             Call::UpsertWith => self.upsert_with(key, now),
             Call::ComputeWith => self.compute_with(key, now),
+            Call::Invalidate => {
+                self.cache.invalidate(&key, now);
+                true
+            }
+            Call::Remove => self.cache.remove(&key, now).is_ok(),
+            Call::InvalidateAll => self.invalidate_all(),
+            Call::InvalidateIf => self.invalidate_if(),
+            Call::Clear => self.clear(now),
+            Call::Walk => self.walk(now),
         };
         self.drop_notices();
         if is_done { Ok(()) } else { Err(AllocError) }
-    }
-}
-
-impl<H: BuildHasher + Default + Drop, F: FrequencySource, R: RowStore<u64, u64>> Clearable
-    for OurRows<H, F, R> {
-    fn invalidate(&mut self, key: u64) {
-        self.cache.invalidate(&key, 0);
-        self.cache.take_notice();
-    }
-
-    fn remove(&mut self, key: u64) -> Result<(), AllocError> {
-        if self.cache.remove(&key, 0).is_err() {
-            return Err(AllocError);
-        }
-        self.cache.take_notice();
-        Ok(())
-    }
-
-    fn invalidate_all(&mut self) {
-        self.cache.invalidate_all();
-    }
-
-    fn invalidate_if(&mut self, predicate: Arc<Everything>) -> Result<(), AllocError> {
-        match self.cache.invalidate_entries_with_arc_fun(predicate) {
-            Ok(()) => Ok(()),
-            Err(_) => Err(AllocError),
-        }
-    }
-
-    fn settle_up_to(&mut self, limit: u64, now: u64) -> bool {
-        self.cache.run_pending_tasks_up_to(limit, now)
-    }
-}
-
-/// The kit's `lru` under the kit's lock, as a program without this library would use it.
-#[derive(Drop)]
-pub(crate) struct Theirs<H: BuildHasher + Drop, W: Drop> {
-    cache: Mutex<LruCache<u64, u64, H>>,
-    waits: W,
-}
-
-impl<H: BuildHasher + Default + Drop, W: Wait + Drop> Create<W> for Theirs<H, W> {
-    fn create(
-        alloc: Global,
-        load: &Load,
-        _policy: EvictionPolicy,
-        waits: W,
-    ) -> Result<Self, AllocError> {
-        let capacity = NonZeroUsize::new(load.capacity as usize).ok_or(AllocError)?;
-        let cache = LruCache::with_hasher(alloc, capacity, H::default())?;
-        Ok(Theirs {
-            cache: Mutex::new(cache),
-            waits,
-        })
-    }
-}
-
-impl<H: BuildHasher + Default + Drop, W: Wait + Drop> Subject for Theirs<H, W> {
-    fn look_up(&mut self, key: u64, _now: u64) -> Result<bool, AllocError> {
-        Ok(self.cache.lock(&self.waits).get(&key).is_some())
-    }
-
-    fn insert(&mut self, key: u64, _now: u64) -> Result<(), AllocError> {
-        self.cache.lock(&self.waits).put(key, key)?;
-        Ok(())
-    }
-
-    fn settle(&mut self, _now: u64) {}
-}
-
-/// A map without a bound, under one lock.
-#[derive(Drop)]
-pub(crate) struct Unbounded<W: Drop> {
-    alloc: Global,
-    map: Mutex<HashMap<u64, u64, Fold>>,
-    waits: W,
-}
-
-impl<W: Wait + Drop> Create<W> for Unbounded<W> {
-    fn create(
-        alloc: Global,
-        _load: &Load,
-        _policy: EvictionPolicy,
-        waits: W,
-    ) -> Result<Self, AllocError> {
-        let map = HashMap::with_hasher(alloc, Fold::default());
-        Ok(Unbounded {
-            alloc,
-            map: Mutex::new(map),
-            waits,
-        })
-    }
-}
-
-impl<W: Wait + Drop> Subject for Unbounded<W> {
-    fn look_up(&mut self, key: u64, _now: u64) -> Result<bool, AllocError> {
-        Ok(self.map.lock(&self.waits).get(&key).is_some())
-    }
-
-    fn insert(&mut self, key: u64, _now: u64) -> Result<(), AllocError> {
-        match self.map.lock(&self.waits).insert(key, key) {
-            Ok(_) => Ok(()),
-            Err(_) => Err(AllocError),
-        }
-    }
-
-    fn settle(&mut self, _now: u64) {}
-
-    fn walk(&mut self, _pairs: usize, now: u64) -> Result<u64, AllocError> {
-        let keys: Vec<u64> = self
-            .map
-            .lock(&self.waits)
-            .keys()
-            .copied()
-            .collect(self.alloc)?;
-        let mut found = 0_u64;
-        for key in keys {
-            if self.look_up(key, now)? {
-                found = found.wrapping_add(1);
-            }
-        }
-        Ok(found)
     }
 }
 
@@ -426,6 +298,4 @@ impl Subject for Nothing {
     fn insert(&mut self, _key: u64, _now: u64) -> Result<(), AllocError> {
         Ok(())
     }
-
-    fn settle(&mut self, _now: u64) {}
 }
