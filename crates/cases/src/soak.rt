@@ -21,10 +21,10 @@ use std::time::{Duration, Instant};
 const THREADS: u64 = 8;
 
 /// How often each thread draws what it does. Each time it draws one value at most.
-const ROUNDS: u64 = 1_000;
+const ROUNDS: u64 = 500;
 
 /// How far a thread sets the clock forward each time, in nanoseconds.
-const PACE: u64 = 40_000_000;
+const PACE: u64 = 80_000_000;
 
 /// What one thread calls and draws from, and what came of it.
 #[derive(Drop)]

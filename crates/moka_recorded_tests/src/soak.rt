@@ -16,7 +16,7 @@ use moka_state::turn_name::TurnName;
 use moka_state::view::StateView;
 use rand_core::{Rng, SeedableRng};
 use rand_xoshiro::SplitMix64;
-use std::alloc::Global;
+use std::alloc::{AllocError, Global};
 use std::marker::Brand;
 use std::sync::ledger::Blank;
 use std::sync::{Arc, Wait};
@@ -146,31 +146,31 @@ fn make_calls<C: CacheTypes<u64, u64>, L: Naming, W: Wait + Drop>(
     pass: &mut Pass<u64, u64, C, L>,
     alloc: Global,
     seed: u64,
-) -> Result<(), Fail>
+) -> Result<(), AllocError>
     requires { (k : ℕ) (v : ℕ) → C.keeps k v }
 {
     let mut random = SplitMix64::seed_from_u64(seed);
     let mut turns = Vec::new(alloc);
     for made in 20..CALLS + 20 {
-        let value = random.next_u64() % 1000;
+        let (what, value) = (random.next_u64() % 44, random.next_u64() % 1000);
         let now = made.wrapping_sub(random.next_u64() % 20);
+        let now = now.wrapping_mul(100_000_000);
         let back = (random.next_u64() % 8) as usize;
         let turn = match turns.get(turns.len().wrapping_sub(back)) {
             Some(turn) => *turn,
             None => (Kind::With, 0, u64::MAX),
         };
-        let drawn = Drawn {
-            what: random.next_u64() % 44,
-            value,
-            now: now.wrapping_mul(100_000_000),
-            turn,
-        };
         if value < 60 {
             let key = Arc::new(alloc, 100 + value % 6)?;
-            cache.get_with(pass, key, move || value, drawn.now)?;
+            if cache.get_with(pass, key, move || value, now).is_err() {
+                return Err(AllocError);
+            }
             continue;
         }
-        let Receipt { reply, .. } = cache.call(pass, step(alloc, drawn)?)?;
+        let step = step(alloc, (what, value, now, turn))?;
+        let Ok(Receipt { reply, .. }) = cache.call(pass, step) else {
+            return Err(AllocError);
+        };
         match reply {
             Reply::Run(name, _entry) => turns.push((name.kind, *name.key, name.number))?,
             Reply::Wait(name) => turns.push((name.kind, *name.key, name.number))?,
@@ -180,20 +180,18 @@ fn make_calls<C: CacheTypes<u64, u64>, L: Naming, W: Wait + Drop>(
     Ok(())
 }
 
-/// What a step is made of: numbers, a moment, and the kind, the key and the number of a turn.
-#[derive(Clone, Copy)]
-struct Drawn {
-    what: u64,
-    value: u64,
-    now: u64,
-    turn: (Kind, u64, u64),
-}
+/// Which step is made, a value, a moment, and the kind, the key and the number of a turn.
+type Drawn = (u64, u64, u64, (Kind, u64, u64));
 
-fn step<C: CacheTypes<u64, u64>>(alloc: Global, drawn: Drawn) -> Result<Step<u64, u64, C>, Fail>
+fn step<C: CacheTypes<u64, u64>>(
+    alloc: Global,
+    drawn: Drawn,
+) -> Result<Step<u64, u64, C>, AllocError>
     requires { (k : ℕ) (v : ℕ) → C.keeps k v }
     ensures { IfOk result (StepKeeps C.keeps C.Predicate.tests C.test) }
 {
-    let (value, now, keep) = (drawn.value, drawn.now, true);
+    let (what, value, now, _) = drawn;
+    let keep = true;
     let key = Arc::new(alloc, value % 24)?;
     let (kind, replace) = match value % 5 {
         0 => (Kind::Optionally, None),
@@ -201,7 +199,7 @@ fn step<C: CacheTypes<u64, u64>>(alloc: Global, drawn: Drawn) -> Result<Step<u64
         2 => (Kind::With, Some(false)),
         _ => (Kind::With, None),
     };
-    Ok(match drawn.what {
+    Ok(match what {
         0..=8 => Step::Get { key, now },
         9 | 10 => Step::ContainsKey { key, now },
         11..=15 => Step::Insert { key, value, now },
@@ -224,12 +222,14 @@ fn step<C: CacheTypes<u64, u64>>(alloc: Global, drawn: Drawn) -> Result<Step<u64
     })
 }
 
-fn end<C: CacheTypes<u64, u64>>(alloc: Global, drawn: Drawn) -> Result<Step<u64, u64, C>, Fail>
+fn end<C: CacheTypes<u64, u64>>(
+    alloc: Global,
+    drawn: Drawn,
+) -> Result<Step<u64, u64, C>, AllocError>
     requires { (k : ℕ) (v : ℕ) → C.keeps k v }
     ensures { IfOk result (StepKeeps C.keeps C.Predicate.tests C.test) }
 {
-    let (value, now) = (drawn.value, drawn.now);
-    let (kind, key, number) = drawn.turn;
+    let (_, value, now, (kind, key, number)) = drawn;
     let key = Arc::new(alloc, key)?;
     let name = TurnName { number, kind, key };
     // (one in seven may not fit the kind)
