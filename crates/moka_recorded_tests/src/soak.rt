@@ -140,7 +140,7 @@ impl<L: Naming, W: Wait + Drop> Job<
     }
 }
 
-// A key from 100 on is loaded by `get_with` alone, so that none of its turns stays open.
+// Fails if a call does. Only `get_with` loads keys from 100 on, so none of their turns stays open.
 fn make_calls<C: CacheTypes<u64, u64>, L: Naming, W: Wait + Drop>(
     cache: &Numbers<C, L, W>,
     pass: &mut Pass<u64, u64, C, L>,
