@@ -35,6 +35,8 @@ mod said;
 #[cfg(test)]
 mod sleepers;
 #[cfg(test)]
+mod soak;
+#[cfg(test)]
 mod tested;
 #[cfg(test)]
 mod threads;
