@@ -1,0 +1,252 @@
+//! The keys, the values and the policies of the caches under test, and counts by which the threads of
+//! a test wait for each other. A thread gives up after a while, so that the test fails if another
+//! never comes.
+ghost use Rattle.std.specs.Prelude.{◌≡◌, nat_eq, true};
+ghost use Rattle.std.proofs.Common.{rules};
+ghost use Rattle.std.specs.Cmp.Rules.{comparing, hashing};
+ghost use Rattle.std.specs.Ordering.{on};
+ghost use Rattle.std.specs.Hash as fed;
+
+use moka::copies::CopiesCompose;
+use moka::notification::RemovalCause;
+use moka::policy::{Listener, NoExpiry, NoWeigher, NumberHash, Predicate};
+use moka::ready::{ReadyTypes, SteadyPredicate};
+use std::alloc::{AllocError, Global};
+use std::hash::{BuildHasherDefault, Hash, Hasher};
+use std::rt::Clock;
+use std::sync::Arc;
+use std::sync::atomic::{AtomicU64, Ordering};
+use std::thread;
+use std::time::Duration;
+
+/// Wraps a value in an `Arc`. Retries once if the allocation fails.
+pub(crate) fn share<T: Drop>(alloc: Global, value: T) -> Result<Arc<T>, AllocError> {
+    match Arc::new(alloc, value) {
+        Ok(value) => Ok(value),
+        Err(failed) => Ok(Arc::new(alloc, failed.value)?),
+    }
+}
+
+/// Counts that go up, each from 0.
+#[derive(Drop)]
+pub(crate) struct Marks {
+    /// The threads that have reached the point at which others wait for them.
+    pub arrived: AtomicU64,
+    /// Those that have arrived and saw that another thread did its work meanwhile.
+    pub in_time: AtomicU64,
+    /// The threads that have done their work.
+    pub done: AtomicU64,
+    /// The calls of initializers.
+    pub asks: AtomicU64,
+    /// The key that an iteration came to.
+    pub key: AtomicU64,
+    /// The moment of the clock, and how often it was read.
+    pub moment: AtomicU64,
+    pub readings: AtomicU64,
+}
+
+/// Creates counts of 0. Retries once if the allocation fails.
+pub(crate) fn new_marks(alloc: Global) -> Result<Arc<Marks>, AllocError> {
+    share(
+        alloc,
+        Marks {
+            arrived: AtomicU64::new(0),
+            in_time: AtomicU64::new(0),
+            done: AtomicU64::new(0),
+            asks: AtomicU64::new(0),
+            key: AtomicU64::new(0),
+            moment: AtomicU64::new(0),
+            readings: AtomicU64::new(0),
+        },
+    )
+}
+
+pub(crate) fn mark(count: &AtomicU64) {
+    count.fetch_add(1, Ordering::SeqCst);
+}
+
+pub(crate) fn so_far(count: &AtomicU64) -> u64 {
+    count.load(Ordering::SeqCst)
+}
+
+/// Waits until a count has reached `wanted`, for about ten seconds at most. Returns whether it has.
+pub(crate) fn reaches(rt: &impl Clock, count: &AtomicU64, wanted: u64) -> bool {
+    for _ in 0..10_000 {
+        if so_far(count) >= wanted {
+            return true;
+        }
+        thread::sleep(rt, Duration::from_millis(1));
+    }
+    false
+}
+
+/// Sleeps 30 ms, so that other threads come to a point that no count shows.
+pub(crate) fn pause(rt: &impl Clock) {
+    thread::sleep(rt, Duration::from_millis(30));
+}
+
+/// Counts itself as arrived, and waits until another thread is done.
+pub(crate) fn inside_until_done(rt: &impl Clock, marks: &Marks) {
+    mark(&marks.arrived);
+    if reaches(rt, &marks.done, 1) {
+        mark(&marks.in_time);
+    }
+}
+
+/// When it is dropped, it waits until another thread is done.
+pub(crate) struct Watch<W: Clock + Drop> {
+    pub marks: Arc<Marks>,
+    pub rt: W,
+}
+
+impl<W: Clock + Drop> Drop for Watch<W> {
+    fn drop(self) {
+        inside_until_done(&self.rt, &self.marks);
+        let Watch { marks: _, rt: _ } = self;
+    }
+}
+
+/// A key, which hashes to its number. It may have a watch, which is dropped with it.
+#[derive(Drop)]
+pub(crate) struct Key<W: Clock + Drop> {
+    pub number: u64,
+    pub watch: Option<Watch<W>>,
+}
+
+impl<W: Clock + Drop> Key<W> {
+    /// Creates a key without a watch.
+    pub(crate) fn new(number: u64) -> Self {
+        let watch = None;
+        Key { number, watch }
+    }
+}
+
+impl<W: Clock + Drop> PartialEq for Key<W> {
+    ghost eq = { on (λ key. key.number) nat_eq };
+
+    ghost laws = { Prim.search (comparing, rules) };
+
+    fn eq(&self, other: &Key<W>) -> bool {
+        self.number == other.number
+    }
+}
+
+impl<W: Clock + Drop> Eq for Key<W> {
+    ghost laws = { Prim.search (comparing, rules) };
+}
+
+impl<W: Clock + Drop> Hash for Key<W> {
+    ghost hash_input = { λ key. fed.u64 key.number };
+
+    ghost respects_eq = { Prim.search (hashing, rules) };
+
+    fn hash<H: Hasher>(&self, state: &mut H) {
+        self.number.hash(state);
+    }
+}
+
+impl<W: Clock + Drop> Clone for Key<W> {
+    ghost is_clone = { λ key copy. nat_eq key.number copy.number ≡ true };
+
+    fn clone(&self) -> Result<Self, AllocError> {
+        let (number, watch) = (self.number, None);
+        Ok(Key { number, watch })
+    }
+}
+
+/// The number of a value of which no clone can be made, as if no memory were left.
+pub(crate) const SCARCE: u64 = u64::MAX;
+
+/// A value. It may have a box, so that a clone of it allocates, and a watch, which is dropped with
+/// it.
+#[derive(Drop)]
+pub(crate) struct Value<W: Clock + Drop> {
+    pub number: u64,
+    pub own: Option<Box<u64>>,
+    pub watch: Option<Watch<W>>,
+}
+
+impl<W: Clock + Drop> Value<W> {
+    /// Creates a value without a box and a watch.
+    pub(crate) fn new(number: u64) -> Self {
+        let (own, watch) = (None, None);
+        Value { number, own, watch }
+    }
+}
+
+impl<W: Clock + Drop> Default for Value<W> {
+    fn default() -> Self {
+        Value::new(0)
+    }
+}
+
+impl<W: Clock + Copy + Drop> Clone for Value<W> {
+    fn clone(&self) -> Result<Self, AllocError> {
+        if self.number == SCARCE {
+            return Err(AllocError);
+        }
+        let mut copy = Value::new(self.number);
+        copy.own = self.own.clone()?;
+        if let Some(Watch { marks, rt }) = &self.watch {
+            let (marks, rt) = (marks.clone()?, *rt);
+            copy.watch = Some(Watch { marks, rt });
+        }
+        Ok(copy)
+    }
+}
+
+impl<W: Clock + Copy + Drop> CopiesCompose for Value<W> {
+    ghost copies_compose = { λ _ _ _ _ _. tt };
+}
+
+/// As a predicate it holds of nothing.
+impl<W: Clock + Drop> Predicate<Key<W>, Value<W>> for Watch<W> {
+    ghost use Rattle.std.specs.Prelude.{◌≡◌, false};
+
+    ghost tests = { λ _ test. test ≡ (λ _ _. false) };
+
+    fn holds(&self, _key: &Key<W>, _value: &Value<W>) -> bool {
+        false
+    }
+}
+
+impl<W: Clock + Drop> SteadyPredicate<Key<W>, Value<W>> for Watch<W> {
+    ghost use Rattle.std.specs.Prelude.{false};
+
+    ghost test = { λ _ _ _. false };
+}
+
+/// As a listener it waits as well.
+impl<W: Clock + Drop> Listener<Key<W>, Value<W>> for Watch<W> {
+    ghost use Rattle.std.specs.Prelude.{⊤};
+
+    ghost hears = { λ _ _ _. ⊤ };
+
+    fn removed(&self, _key: Arc<Key<W>>, _value: Value<W>, _cause: RemovalCause)
+        requires { ⊤ }
+    {
+        inside_until_done(&self.rt, &self.marks);
+    }
+}
+
+/// As a clock they count how often it is read. A cache reads it under its lock. So what has read it for
+/// a begin has begun before anybody else gets the lock.
+impl moka::policy::Clock for Marks {
+    fn now(&self) -> u64 {
+        mark(&self.readings);
+        so_far(&self.moment)
+    }
+}
+
+pub(crate) type NumberHasher = BuildHasherDefault<NumberHash>;
+
+/// The types of the caches. Initializers may fail with a number.
+pub(crate) type Types<W> = ReadyTypes<
+    NumberHasher,
+    NoWeigher,
+    NoExpiry,
+    Arc<Marks>,
+    Watch<W>,
+    u64,
+    Watch<W>,
+>;

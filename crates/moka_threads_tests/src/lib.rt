@@ -1,0 +1,15 @@
+//! The tests of the shared caches that need threads: what runs under a lock and what does not, who
+//! waits for whom and wakes, and when a loader gives up. Each runs on a cache with one lock and on
+//! one of four segments.
+#![tactic(auto)]
+
+#[cfg(test)]
+mod beside;
+#[cfg(test)]
+mod calls;
+#[cfg(test)]
+mod items;
+#[cfg(test)]
+mod waiting;
+#[cfg(test)]
+mod world;
