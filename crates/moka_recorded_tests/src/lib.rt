@@ -1,46 +1,23 @@
-//! The tests of the recorded cache: its receipts, its history, its errors, and how its callers wait
-//! for each other.
+//! The tests of the recorded cache: its receipts, its history, its errors, how its callers wait for
+//! each other, and what a refused request leaves.
+//!
+//! A test is a [`scene::Scene`]: rows of calls with what their replies say. Behind each scene the
+//! cache is closed, and an owned cache is given the steps of its history.
 #![tactic(auto)]
 
 #[cfg(test)]
-mod answer;
+mod act;
 #[cfg(test)]
 mod caches;
 #[cfg(test)]
-mod calls;
-#[cfg(test)]
-mod cases;
-#[cfg(test)]
-mod closed;
-#[cfg(test)]
-mod closing;
-#[cfg(test)]
-mod driver;
-#[cfg(test)]
-mod giving_up;
-#[cfg(test)]
-mod load_job;
-#[cfg(test)]
-mod loading;
+mod history;
 #[cfg(test)]
 mod marks;
 #[cfg(test)]
-mod passes;
+mod player;
 #[cfg(test)]
-mod quiet;
-#[cfg(test)]
-mod rows;
-#[cfg(test)]
-mod said;
-#[cfg(test)]
-mod sleepers;
+mod scene;
 #[cfg(test)]
 mod soak;
 #[cfg(test)]
-mod tested;
-#[cfg(test)]
-mod threads;
-#[cfg(test)]
-mod waiting;
-#[cfg(test)]
-mod waking;
+mod tests;
