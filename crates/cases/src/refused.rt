@@ -207,6 +207,22 @@ pub fn may_take(rules: Rules, call: Call) -> bool {
     }
 }
 
+/// Returns whether a call begins a turn by hand.
+pub fn begins(call: Call) -> bool {
+    matches!(
+        call,
+        Call::Turn(Turned::Begin(_, _, _, _) | Turned::BeginCompute(_, _))
+    )
+}
+
+/// Returns whether a call of a shared cache may wait for a turn.
+pub fn may_wait(call: Call) -> bool {
+    matches!(
+        call,
+        Call::Load(_, _) | Call::LoadByRef(_, _) | Call::Select(_, _) | Call::SelectByRef(_, _)
+    )
+}
+
 /// Returns the begin that a loader or a compute made.
 pub fn begin_of(call: Call) -> Option<Call> {
     let (turned, key) = match call {
@@ -336,4 +352,33 @@ pub fn room(alloc: Global, case: &Case<'_>) -> Vec<Mark> {
         let _ = marks.reserve(most);
     }
     marks
+}
+
+/// Returns how many marks differ. Prints each, but where a line is only told.
+pub fn compare<P: Print>(
+    rt: &P,
+    case: &Case<'_>,
+    first: &[Mark],
+    twin: &[Mark],
+    prints: bool,
+) -> Result<u64> {
+    let mut wrong = 0_u64;
+    for (mark, wanted) in first.iter().zip(twin.iter()) {
+        if mark == wanted {
+            continue;
+        }
+        wrong = wrong.wrapping_add(1);
+        if prints {
+            let place = if mark.is_behind { " behind" } else { "" };
+            println!(rt;
+                "{}:{}{place}: {}: got {}, and its twin {}",
+                case.file,
+                mark.at.wrapping_add(1),
+                case.kind.name,
+                mark.reply,
+                wanted.reply
+            )?;
+        }
+    }
+    Ok(wrong)
 }
