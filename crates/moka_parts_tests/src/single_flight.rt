@@ -117,7 +117,8 @@ fn ending_of(waited: Result<Joined<u64, u64>, Refusal>) -> Ending {
 /// If no turn gives anything, the loop begins 200 times, and without a limit it goes on. A ticket that
 /// is not ready counts for nothing, however often it is collected. A failed begin or collect ends the
 /// loop and is returned, with the ticket as it was collected last.
-const CASES: &str = "0 0 found 200 = Value(5) 1 0; 0 0 turn 200 = Turn(1) 1 0; 199 0 turn 200 = Turn(200) 200 199;
+const CASES: &str =
+    "0 0 found 200 = Value(5) 1 0; 0 0 turn 200 = Turn(1) 1 0; 199 0 turn 200 = Turn(200) 200 199;
     199 0 ready 200 = Value(5) 200 200; 200 0 turn 200 = TooMany 200 200; 200 2 found 200 = TooMany 200 600;
     0 0 turn 0 = TooMany 0 0; 300 0 turn no = Turn(301) 301 300; 300 0 found no = Value(5) 301 300;
     300 1 ready no = Value(5) 301 602; 0 3 ready 1 = Value(5) 1 4; 1 100 ready 2 = Value(5) 2 202;

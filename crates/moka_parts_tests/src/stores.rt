@@ -1,6 +1,6 @@
-//! Row stores by themselves: tables, their room, and what lookups read.
+//! Row stores by themselves: tables, their room, long lists of calls, and what lookups read.
 
-use crate::rows::{Hashes, add, make_call, number_of};
+use crate::rows::{Hashes, Reply, add, make_call, number_of};
 use moka_expiring_rows::expiring_rows::ExpiringRows;
 use moka_rows::list_rows::ListRows;
 use moka_rows::rows::RowStore;
@@ -113,6 +113,47 @@ fn each_store_makes_room(rt: HostRuntime) -> Result<(), Fail> {
     assert_eq!(rt; shortfalls::<Expiring>(rt.alloc(), 1_100), 0);
     let mut rows: Lists = Lists::new(rt.alloc());
     assert!(rt; rows.reserve(1 << 32).is_err());
+    Ok(())
+}
+
+/// The calls of long lists.
+const CALLS: &str =
+    "add add add find hash read is_hidden is_admitted hide next admit access overwrite remove \
+    remove admit_first take_first first_admitted first_waiting first_expired len waiting_len";
+
+/// Makes 3,000 pseudorandom calls about 40 keys. Returns their results.
+fn replies<R: RowStore<u64, u64>>(alloc: Global, hashes: Hashes) -> Result<Vec<Reply>, AllocError> {
+    let mut rows: R = R::new(alloc);
+    let (mut given, mut found) = (Vec::new(alloc), Vec::new(alloc));
+    let mut seed: u64 = 1;
+    for moment in 0..3_000_u64 {
+        seed = seed
+            .wrapping_mul(6_364_136_223_846_793_005)
+            .wrapping_add(1_442_695_040_888_963_407);
+        let name = CALLS.split_whitespace().nth((seed >> 32) as usize % 22);
+        let key = if name == Some("first_expired") {
+            moment
+        } else {
+            (seed >> 16) % 40
+        };
+        let line = format!(in alloc; "{} {key} {moment} {moment}", name.unwrap_or("len"))?;
+        found.push(make_call(alloc, &mut rows, hashes, &mut given, line.as_str())?)?;
+    }
+    Ok(found)
+}
+
+/// All stores give the same results for a long list of calls.
+#[test]
+fn all_stores_answer_alike(rt: HostRuntime) -> Result<(), Fail> {
+    for hashes in [Hashes::One, Hashes::Three, Hashes::Own] {
+        let lists = replies::<Lists>(rt.alloc(), hashes)?;
+        let slab = replies::<Slab>(rt.alloc(), hashes)?;
+        let expiring = replies::<Expiring>(rt.alloc(), hashes)?;
+        for (turn, reply) in lists.iter().enumerate() {
+            assert_eq!(rt; slab.get(turn), Some(reply), "turn {turn}");
+            assert_eq!(rt; expiring.get(turn), Some(reply), "turn {turn}");
+        }
+    }
     Ok(())
 }
 

@@ -42,7 +42,7 @@ pub(crate) fn receipts_of<C: CacheTypes<u64, Scarce>, L: Naming>(
 }
 
 /// Returns something as a text. Tries again if memory is refused.
-fn text_of<T: Debug>(alloc: Global, it: &T) -> Result<String, AllocError> {
+pub(crate) fn text_of<T: Debug>(alloc: Global, it: &T) -> Result<String, AllocError> {
     match format!(in alloc; "{it:?}") {
         Ok(text) => Ok(text),
         Err(_) => format!(in alloc; "{it:?}"),

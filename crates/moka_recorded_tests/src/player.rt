@@ -4,6 +4,7 @@ ghost use Rattle.moka_state.specs.Step.{StepKeeps};
 
 use crate::act::{Act, Said, ScarceStep, read, said_of, step_of};
 use crate::caches::{Pass, Recorded};
+use crate::history::text_of;
 use crate::marks::{Marks, Scarce, TURNS, come, mark, nap, so_far};
 use moka_policy::policy::{CacheTypes, Refused};
 use moka_recorded::naming::Naming;
@@ -107,9 +108,9 @@ impl<R: Clock + Abort + Copy> Player<R> {
         let Some((_, wanted)) = row.split_once(" = ") else {
             return;
         };
-        match format!(in self.alloc; "{said:?}") {
+        match text_of(self.alloc, &said) {
             Ok(text) => assert_eq!(self.rt; text.as_str(), wanted.trim(), "{row}"),
-            Err(_) => assert!(self.rt; false, "refused"),
+            Err(_) => assert!(self.rt; false, "refused twice"),
         }
     }
 
