@@ -131,7 +131,6 @@ impl<W: Whole> World<W> {
         }
     }
 
-    /// Waits if closures do, and returns the value of a closure.
     fn after_waiting(&self, value: Value<W>) -> Value<W> {
         if let Mode::Waits = self.mode {
             inside_until_done(&self.rt, &self.marks);
