@@ -256,12 +256,10 @@ impl<W: Whole> World<W> {
         }
     }
 
-    /// Abandons a turn. Returns whether it was open.
     pub(crate) fn abandons(&self, turn: Turn<Key<W>>) -> bool {
         both!(&self.cache, cache => cache.abandon(turn)).is_ok()
     }
 
-    /// Leaves a ticket. Returns whether the cache knew it.
     pub(crate) fn leaves(&self, ticket: Ticket<Key<W>>) -> bool {
         both!(&self.cache, cache => cache.leave(ticket)).is_ok()
     }

@@ -15,10 +15,8 @@ use std::sync::atomic::Ordering;
 use std::test::Fail;
 use std::thread;
 
-/// A key of each segment.
 const PLACES: [Place; 5] = [(1, 0), (4, 0), (4, SECOND), (4, THIRD), (4, FOURTH)];
 
-/// Waits for a turn that ends with the value 7, or is abandoned; and more.
 const SCENES: [Scene; 9] = [
     Scene::Waits(Call::With, true),
     Scene::Waits(Call::WithByRef, true),
@@ -160,7 +158,6 @@ impl<W: Whole> World<W> {
 
 /// How many turns of loaders are abandoned. There are two more loaders. All wait for another turn first,
 /// which is abandoned too. A loader abandons its turn if no clone of its value can be made.
-///
 /// Nobody can say which loader opens the next turn. But of 201, 199 have had a turn of their own after
 /// 200 abandoned ones, whichever these are, and the other two have waited for all 200.
 #[derive(Clone, Copy, Debug)]
@@ -203,20 +200,26 @@ fn gives_up<W: Whole>(rt: W, alloc: Global, locks: usize, call: Call) -> Result<
 /// and runs none.
 #[test]
 fn a_loader_gives_up_after_200_abandoned_turns(rt: HostRuntime) -> Result<(), Fail> {
-    gives_up(rt, rt.alloc(), 1, Call::With)?;
+    gives_up(rt, rt.alloc(), 1, Call::With)
+}
+
+#[test]
+fn one_in_a_segment_gives_up(rt: HostRuntime) -> Result<(), Fail> {
     gives_up(rt, rt.alloc(), 4, Call::With)
 }
 
-/// The same by reference.
 #[test]
-fn a_loader_by_reference_gives_up(rt: HostRuntime) -> Result<(), Fail> {
-    gives_up(rt, rt.alloc(), 1, Call::WithByRef)?;
+fn one_by_reference_gives_up(rt: HostRuntime) -> Result<(), Fail> {
+    gives_up(rt, rt.alloc(), 1, Call::WithByRef)
+}
+
+#[test]
+fn one_by_reference_in_a_segment_gives_up(rt: HostRuntime) -> Result<(), Fail> {
     gives_up(rt, rt.alloc(), 4, Call::WithByRef)
 }
 
-/// The same for a loader that replaces a live value.
 #[test]
-fn a_loader_that_replaces_gives_up(rt: HostRuntime) -> Result<(), Fail> {
+fn one_that_replaces_gives_up(rt: HostRuntime) -> Result<(), Fail> {
     gives_up(rt, rt.alloc(), 1, Call::WithIf)
 }
 
@@ -258,7 +261,7 @@ impl<W: Whole> World<W> {
         Value::new(if closure < plan.failing { SCARCE } else { 12 })
     }
 
-    /// Counts the loaders that are refused their value, are given one, and give up, and the closures.
+    /// Counts those that are refused their value, are given one, and give up, and the closures.
     fn counts_of(&self, all: Vec<Given>) -> (u64, u64, u64, u64) {
         let (mut refused, mut given, mut gave_up) = (0_u64, 0_u64, 0_u64);
         for one in all {
@@ -274,7 +277,6 @@ impl<W: Whole> World<W> {
     }
 }
 
-/// The value of the closure of the second caller.
 const SECOND_VALUE: u64 = 12;
 
 fn boxed(alloc: Global, number: u64) -> Result<Box<u64>, AllocError> {
