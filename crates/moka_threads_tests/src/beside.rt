@@ -22,13 +22,11 @@ use std::thread;
 #[derive(Clone, Copy, Debug)]
 pub(crate) enum Busy {
     Calls(Call),
-    /// The key of an insert, at a capacity of 0 or as an overwrite.
+    /// The key of an insert at a capacity of 0, or of an overwrite, also after a flush.
     DropsKey,
-    /// The key of an overwrite after a flush.
     DropsFlushingKey,
-    /// The value of an insert or of a loader at a capacity of 0.
+    /// The value of a call at a capacity of 0, or of an `or_insert` that finds a live one.
     DropsValue(Call),
-    /// The value of an `or_insert` that finds a live one.
     DropsGivenValue,
     /// The value of an ended turn, once its last ticket is collected, or left.
     DropsTurnsValue(bool),
@@ -89,8 +87,7 @@ fn a_get_answers_meanwhile(rt: HostRuntime) -> Result<(), Fail> {
 }
 
 impl<W: Whole> World<W> {
-    /// Checks that something waited for the lookup, that the lookup was done meanwhile each time, and
-    /// what it found.
+    /// Checks that something waited for the lookup, and that the lookup was done meanwhile each time.
     pub(crate) fn answers_beside(&self, busy: Busy) -> Result<(), Fail> {
         let key = self.shared_key(1)?;
         let wanted = self.prepares(busy);
@@ -202,9 +199,8 @@ impl<W: Whole> World<W> {
     }
 }
 
-/// The calls that fail once all sequence numbers are drawn, with the first number of a cache that has
-/// drawn two before. A loader and a compute draw the last one for their turn, which is open when their
-/// finish fails.
+/// The calls that fail once all sequence numbers are drawn, with the first number of a cache. A loader
+/// and a compute draw the last one for their turn, which is open when their finish fails.
 const REFUSED_CALLS: [(Call, u64); 5] = [
     (Call::Insert, u64::MAX - 2),
     (Call::OrInsert, u64::MAX - 2),
@@ -215,8 +211,7 @@ const REFUSED_CALLS: [(Call, u64); 5] = [
 
 /// A call that fails does not call the listener, even if another call's notice is queued.
 ///
-/// The listener waits for a thread whose call fails. If that thread called it, it would wait for its
-/// own caller, and with an open turn so would all others that ask for the key.
+/// If it called the listener, that would wait for its own caller, and so would all who ask for the key.
 #[test]
 fn a_failed_call_leaves_notices_to_others(rt: HostRuntime) -> Result<(), Fail> {
     for locks in BOTH {
@@ -243,8 +238,7 @@ impl<W: Whole> World<W> {
         assert_eq!(&self.rt; heard, (2, 2), "no notice is lost: {call:?}");
     }
 
-    /// Makes a call about key 3 once the listener runs. Returns why it failed, and how many notices the
-    /// listener had heard by then.
+    /// Makes a call once the listener runs. Returns why it failed, and how many notices were heard then.
     fn fails_once_it_hears(&self, call: Call) -> (Option<Refused>, u64) {
         reaches(&self.rt, &self.marks.arrived, 1);
         let cause = self.make(3, Value::new(30), call).err();
@@ -301,16 +295,14 @@ impl<W: Whole> World<W> {
     }
 }
 
-/// The first keys of the segments. Two keys of each are stored, and the last segment, which an iteration
-/// reaches last, is written first.
+/// The first keys of the segments. The last segment, which an iteration reaches last, is written first.
 const FIRSTS: [u64; 4] = [FOURTH, THIRD, SECOND, 0];
 
 /// A key of the first segment, which is written after an iteration has listed that segment's keys.
 const LATE: u64 = 2;
 
 impl<W: Whole> World<W> {
-    /// Iterates to the end, and after each step waits for the writes of another thread. Returns the
-    /// keys; checks that none came twice.
+    /// Iterates, and after each step waits for the writes of another thread. Checks that no key came twice.
     fn walk_to_end(&self, walk: Iter<'_, Key<W>, Value<W>, OneLock<W>>) -> Result<Vec<u64>, Fail> {
         let mut came = Vec::new(self.alloc);
         for pair in walk {
@@ -327,8 +319,7 @@ impl<W: Whole> World<W> {
         Ok(came)
     }
 
-    /// At each step removes the key that came and inserts it again, overwrites a key that was stored
-    /// before, and writes one that was not. Returns whether all succeeded.
+    /// At each step renews the key that came, overwrites a stored one, and writes one that was not.
     fn writes(&self) -> bool {
         let mut is_done = true;
         for first in FIRSTS {

@@ -131,7 +131,6 @@ impl<W: Whole> World<W> {
         }
     }
 
-    /// Waits if closures do, and returns the value of a closure.
     fn after_waiting(&self, value: Value<W>) -> Value<W> {
         if let Mode::Waits = self.mode {
             inside_until_done(&self.rt, &self.marks);
@@ -257,12 +256,10 @@ impl<W: Whole> World<W> {
         }
     }
 
-    /// Abandons a turn. Returns whether it was open.
     pub(crate) fn abandons(&self, turn: Turn<Key<W>>) -> bool {
         both!(&self.cache, cache => cache.abandon(turn)).is_ok()
     }
 
-    /// Leaves a ticket. Returns whether the cache knew it.
     pub(crate) fn leaves(&self, ticket: Ticket<Key<W>>) -> bool {
         both!(&self.cache, cache => cache.leave(ticket)).is_ok()
     }

@@ -1,18 +1,17 @@
 //! The keys, the values and the policies of the caches under test, and counts by which the threads of
-//! a test wait for each other. A thread gives up after a while, so that the test fails if another
-//! never comes.
-ghost use Rattle.std.specs.Prelude.{◌≡◌, nat_eq, true};
+//! a test wait for each other.
+ghost use Rattle.std.specs.Prelude.{◌≡◌, false, nat_eq, refl, true};
+ghost use Rattle.moka_model.specs.Lives.{no_lifetimes};
 ghost use Rattle.std.proofs.Common.{rules};
 ghost use Rattle.std.specs.Cmp.Rules.{comparing, hashing};
 ghost use Rattle.std.specs.Ordering.{on};
 ghost use Rattle.std.specs.Hash as fed;
 
-use moka::copies::CopiesCompose;
 use moka::notification::RemovalCause;
-use moka::policy::{Listener, NoExpiry, NoWeigher, NumberHash, Predicate};
-use moka::ready::{ReadyTypes, SteadyPredicate};
+use moka::policy::{CacheTypes, CountTable, Listener, NoExpiry, NoWeigher, NumberHash, Predicate};
 use std::alloc::{AllocError, Global};
 use std::hash::{BuildHasherDefault, Hash, Hasher};
+use std::marker::PhantomData;
 use std::rt::Clock;
 use std::sync::Arc;
 use std::sync::atomic::{AtomicU64, Ordering};
@@ -45,7 +44,7 @@ pub(crate) struct Marks {
     pub readings: AtomicU64,
 }
 
-/// Creates counts of 0. Retries once if the allocation fails.
+/// Creates counts of 0.
 pub(crate) fn new_marks(alloc: Global) -> Result<Arc<Marks>, AllocError> {
     share(
         alloc,
@@ -195,14 +194,8 @@ impl<W: Clock + Copy + Drop> Clone for Value<W> {
     }
 }
 
-impl<W: Clock + Copy + Drop> CopiesCompose for Value<W> {
-    ghost copies_compose = { λ _ _ _ _ _. tt };
-}
-
 /// As a predicate it holds of nothing.
 impl<W: Clock + Drop> Predicate<Key<W>, Value<W>> for Watch<W> {
-    ghost use Rattle.std.specs.Prelude.{◌≡◌, false};
-
     ghost tests = { λ _ test. test ≡ (λ _ _. false) };
 
     fn holds(&self, _key: &Key<W>, _value: &Value<W>) -> bool {
@@ -210,13 +203,6 @@ impl<W: Clock + Drop> Predicate<Key<W>, Value<W>> for Watch<W> {
     }
 }
 
-impl<W: Clock + Drop> SteadyPredicate<Key<W>, Value<W>> for Watch<W> {
-    ghost use Rattle.std.specs.Prelude.{false};
-
-    ghost test = { λ _ _ _. false };
-}
-
-/// As a listener it waits as well.
 impl<W: Clock + Drop> Listener<Key<W>, Value<W>> for Watch<W> {
     ghost use Rattle.std.specs.Prelude.{⊤};
 
@@ -229,8 +215,8 @@ impl<W: Clock + Drop> Listener<Key<W>, Value<W>> for Watch<W> {
     }
 }
 
-/// As a clock they count how often it is read. A cache reads it under its lock. So what has read it for
-/// a begin has begun before anybody else gets the lock.
+/// As a clock they count its readings, which are made under the lock of a cache. So what has read it for a
+/// begin has begun before anybody else gets the lock.
 impl moka::policy::Clock for Marks {
     fn now(&self) -> u64 {
         mark(&self.readings);
@@ -240,13 +226,39 @@ impl moka::policy::Clock for Marks {
 
 pub(crate) type NumberHasher = BuildHasherDefault<NumberHash>;
 
-/// The types of the caches. Initializers may fail with a number.
-pub(crate) type Types<W> = ReadyTypes<
-    NumberHasher,
-    NoWeigher,
-    NoExpiry,
-    Arc<Marks>,
-    Watch<W>,
-    u64,
-    Watch<W>,
->;
+/// The types of the caches. The frequency source is small, so that it is made quickly.
+pub(crate) struct Types<W>(PhantomData<W>);
+
+impl<W: Clock + Copy + Drop> CacheTypes<Key<W>, Value<W>> for Types<W> {
+    type Hasher = NumberHasher;
+
+    type Weigher = NoWeigher;
+
+    type Expiry = NoExpiry;
+
+    type Predicate = Watch<W>;
+
+    type Frequency = CountTable<6>;
+
+    type Listener = Watch<W>;
+
+    type Clock = Arc<Marks>;
+
+    type Error = u64;
+
+    ghost weight = { λ _ _ _. 1 };
+
+    ghost equal_keys_weigh = { λ _ _ _ _ _. refl };
+
+    ghost lifetimes = { λ _. no_lifetimes };
+
+    ghost test = { λ _ _ _. false };
+
+    ghost keeps = { λ _ _. Unit {0} };
+
+    ghost equal_keys_keep = { λ _ _ _ _ _. tt };
+
+    ghost copies_keep = { λ _ _ _ _ _. tt };
+
+    ghost copies_compose = { λ _ _ _ _ _. tt };
+}

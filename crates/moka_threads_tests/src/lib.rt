@@ -1,6 +1,5 @@
-//! The tests of the shared caches that need threads: what runs under a lock and what does not, who
-//! waits for whom and wakes, and when a loader gives up. Each runs on a cache with one lock and on
-//! one of four segments.
+//! The tests of the shared caches that need threads: what runs under a lock, who waits for whom and
+//! wakes, and when a loader gives up. Most run on a cache with one lock and on one of four segments.
 #![tactic(auto)]
 
 #[cfg(test)]

@@ -15,33 +15,18 @@ use std::sync::atomic::Ordering;
 use std::test::Fail;
 use std::thread;
 
-/// A key of each segment.
 const PLACES: [Place; 5] = [(1, 0), (4, 0), (4, SECOND), (4, THIRD), (4, FOURTH)];
 
-/// How a turn ends for which another caller waits: with the value 7, or not.
-#[derive(Clone, Copy, Debug)]
-pub(crate) enum End {
-    Finished,
-    Abandoned,
-}
-
-/// What four threads do at once: load a value, or add 1 eight times.
-#[derive(Clone, Copy)]
-pub(crate) enum Work {
-    Load,
-    Count,
-}
-
 const SCENES: [Scene; 9] = [
-    Scene::Waits(Call::With, End::Finished),
-    Scene::Waits(Call::WithByRef, End::Finished),
-    Scene::Waits(Call::WithIf, End::Finished),
-    Scene::Waits(Call::With, End::Abandoned),
-    Scene::Waits(Call::WithByRef, End::Abandoned),
-    Scene::Waits(Call::WithIf, End::Abandoned),
+    Scene::Waits(Call::With, true),
+    Scene::Waits(Call::WithByRef, true),
+    Scene::Waits(Call::WithIf, true),
+    Scene::Waits(Call::With, false),
+    Scene::Waits(Call::WithByRef, false),
+    Scene::Waits(Call::WithIf, false),
     Scene::SharesError,
-    Scene::WorksTogether(Work::Load),
-    Scene::WorksTogether(Work::Count),
+    Scene::WorksTogether(Call::With),
+    Scene::WorksTogether(Call::Upsert),
 ];
 
 /// A caller that waits for a turn, in any segment, gets its value or its error. If the turn is
@@ -58,32 +43,33 @@ fn who_waits_is_answered(rt: HostRuntime) -> Result<(), Fail> {
 }
 
 impl<W: Whole> World<W> {
-    pub(crate) fn waits_for_a_turn(&self, call: Call, end: End) -> Result<(), Fail> {
+    pub(crate) fn waits_for_a_turn(&self, call: Call, ends: bool) -> Result<(), Fail> {
         let key = self.shared_key(self.number)?;
         self.puts_ten(self.number, call);
-        let ((), given) = thread::join(&self.rt, || self.ends(&key, call, end), || self.asks(call));
-        let wanted = match end {
-            End::Finished => (Ok(7), 0),
-            End::Abandoned => (Ok(12), 1),
-        };
+        let ((), given) = thread::join(
+            &self.rt,
+            || self.ends(&key, call, ends),
+            || self.asks(call),
+        );
+        let wanted = if ends { (Ok(7), 0) } else { (Ok(12), 1) };
         let given = (given, so_far(&self.marks.asks));
-        assert_eq!(&self.rt; given, wanted, "{call:?}, {end:?}");
+        assert_eq!(&self.rt; given, wanted, "{call:?}, {ends}");
         Ok(())
     }
 
     /// Opens a turn, and ends it once another caller waits for it.
-    fn ends(&self, key: &Arc<Key<W>>, call: Call, end: End) {
+    fn ends(&self, key: &Arc<Key<W>>, call: Call, ends: bool) {
         let turn = self.open(key, Kind::With);
         self.waits_still(call.readings());
-        let is_ended = match end {
-            End::Finished => self.finishes(turn, Outcome::Value(Value::new(7))),
-            End::Abandoned => self.abandons(turn),
+        let is_ended = if ends {
+            self.finishes(turn, Outcome::Value(Value::new(7)))
+        } else {
+            self.abandons(turn)
         };
         assert!(&self.rt; is_ended);
     }
 
-    /// Says that a turn is open. Checks that another caller begins, which takes so many readings of the
-    /// clock, and is still waiting after a pause.
+    /// Checks that another caller begins, with so many readings of the clock, and waits after a pause.
     fn waits_still(&self, readings: u64) {
         let begun = self.readings().wrapping_add(readings);
         mark(&self.marks.arrived);
@@ -136,22 +122,24 @@ impl<W: Whole> World<W> {
         given.ok()?.err()
     }
 
-    pub(crate) fn work_together(&self, work: Work) -> Result<(), Fail> {
-        let all = thread::map_indices(&self.rt, self.alloc, 4, &|_| self.works(work))?;
+    pub(crate) fn work_together(&self, call: Call) -> Result<(), Fail> {
+        let all = thread::map_indices(&self.rt, self.alloc, 4, &|_| self.works(call))?;
         for given in all {
             assert_eq!(&self.rt; given, Ok(7));
         }
-        let wanted = match work {
-            Work::Load => (Ok(Some(7)), 1),
-            Work::Count => (Ok(Some(32)), 0),
+        let is_load = matches!(call, Call::With);
+        let wanted = if is_load {
+            (Ok(Some(7)), 1)
+        } else {
+            (Ok(Some(32)), 0)
         };
         assert_eq!(&self.rt; (self.look(self.number), so_far(&self.marks.asks)), wanted);
         Ok(())
     }
 
-    fn works(&self, work: Work) -> Given {
-        if let Work::Load = work {
-            return self.loads(self.number, Call::With, || {
+    fn works(&self, call: Call) -> Given {
+        if let Call::With = call {
+            return self.loads(self.number, call, || {
                 mark(&self.marks.asks);
                 self.reads(4);
                 Value::new(7)
@@ -169,12 +157,9 @@ impl<W: Whole> World<W> {
 }
 
 /// How many turns of loaders are abandoned. There are two more loaders. All wait for another turn first,
-/// which is abandoned too.
-///
+/// which is abandoned too. A loader abandons its turn if no clone of its value can be made.
 /// Nobody can say which loader opens the next turn. But of 201, 199 have had a turn of their own after
-/// 200 abandoned ones, whichever these are. The other two have waited for all 200. A loader abandons its
-/// turn if no clone of its value can be made. Its closure returns once all that are left wait for its
-/// turn: the clock counts their begins.
+/// 200 abandoned ones, whichever these are, and the other two have waited for all 200.
 #[derive(Clone, Copy, Debug)]
 pub(crate) struct Plan {
     call: Call,
@@ -192,8 +177,8 @@ impl Plan {
         all.wrapping_add(2)
     }
 
-    /// Returns how often it was read once all that are left wait for the turn of this closure, from 0.
-    /// The end of each turn reads it, and each begin behind that.
+    /// Returns that once all that are left wait for the turn of this closure, from 0. The end of each
+    /// turn reads the clock, and each begin behind that.
     fn at_closure(self, closure: u64) -> u64 {
         let mut readings = self.at_first().wrapping_add(self.loaders());
         for earlier in 0..closure {
@@ -203,19 +188,39 @@ impl Plan {
     }
 }
 
+fn gives_up<W: Whole>(rt: W, alloc: Global, locks: usize, call: Call) -> Result<(), Fail> {
+    for failing in [198, 199] {
+        let scene = Scene::GivesUp(Plan { call, failing });
+        play(rt, alloc, (locks, 1), PLAIN, scene)?;
+    }
+    Ok(())
+}
+
 /// A loader that has waited for 199 abandoned turns runs its closure. One that has waited for 200 fails
 /// and runs none.
 #[test]
 fn a_loader_gives_up_after_200_abandoned_turns(rt: HostRuntime) -> Result<(), Fail> {
-    for locks in BOTH {
-        for call in [Call::With, Call::WithByRef, Call::WithIf] {
-            for failing in [198, 199] {
-                let scene = Scene::GivesUp(Plan { call, failing });
-                play(rt, rt.alloc(), (locks, 1), PLAIN, scene)?;
-            }
-        }
-    }
-    Ok(())
+    gives_up(rt, rt.alloc(), 1, Call::With)
+}
+
+#[test]
+fn one_in_a_segment_gives_up(rt: HostRuntime) -> Result<(), Fail> {
+    gives_up(rt, rt.alloc(), 4, Call::With)
+}
+
+#[test]
+fn one_by_reference_gives_up(rt: HostRuntime) -> Result<(), Fail> {
+    gives_up(rt, rt.alloc(), 1, Call::WithByRef)
+}
+
+#[test]
+fn one_by_reference_in_a_segment_gives_up(rt: HostRuntime) -> Result<(), Fail> {
+    gives_up(rt, rt.alloc(), 4, Call::WithByRef)
+}
+
+#[test]
+fn one_that_replaces_gives_up(rt: HostRuntime) -> Result<(), Fail> {
+    gives_up(rt, rt.alloc(), 1, Call::WithIf)
 }
 
 impl<W: Whole> World<W> {
@@ -247,8 +252,7 @@ impl<W: Whole> World<W> {
         Ok(0)
     }
 
-    /// Returns the value of a closure, once all that are left wait for its turn. If they did not come
-    /// once, the test has failed, and nobody waits for them again.
+    /// Returns the value of a closure, once all that are left wait for its turn, or once did not come.
     fn value_of_closure(&self, plan: Plan) -> Value<W> {
         let closure = self.marks.asks.fetch_add(1, Ordering::SeqCst);
         if so_far(&self.marks.done) == 0 && !self.reads(plan.at_closure(closure)) {
@@ -257,7 +261,7 @@ impl<W: Whole> World<W> {
         Value::new(if closure < plan.failing { SCARCE } else { 12 })
     }
 
-    /// Counts the loaders that are refused their value, are given one, and give up, and the closures.
+    /// Counts those that are refused their value, are given one, and give up, and the closures.
     fn counts_of(&self, all: Vec<Given>) -> (u64, u64, u64, u64) {
         let (mut refused, mut given, mut gave_up) = (0_u64, 0_u64, 0_u64);
         for one in all {
@@ -273,7 +277,6 @@ impl<W: Whole> World<W> {
     }
 }
 
-/// The value of the closure of the second caller.
 const SECOND_VALUE: u64 = 12;
 
 fn boxed(alloc: Global, number: u64) -> Result<Box<u64>, AllocError> {
@@ -340,8 +343,8 @@ impl<W: Whole> World<W> {
         Ok(())
     }
 
-    /// Makes the call of a caller, the second one once the first closure runs. Makes it once more if
-    /// it failed, the first one only before its closure ran. Returns what both calls returned.
+    /// Makes the call of a caller, the second one once the first closure runs; and once more if it
+    /// failed, the first one only before its closure ran. Returns what both calls returned.
     fn calls(&self, call: Call, values: (Value<W>, Value<W>)) -> (Given, Given) {
         let (value, again) = values;
         let is_second = value.number == SECOND_VALUE;
@@ -367,8 +370,7 @@ impl<W: Whole> World<W> {
         Ok(entry.value().number)
     }
 
-    /// Is the body of the closure of both callers. That of the first returns its value once the second
-    /// caller has begun.
+    /// Is the body of both closures. That of the first returns its value once the second has begun.
     fn asked(&self, value: Value<W>) -> Value<W> {
         if value.number == SECOND_VALUE {
             mark(&self.marks.asks);

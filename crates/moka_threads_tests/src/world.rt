@@ -5,7 +5,7 @@ use crate::calls::Call;
 use crate::items::{
     Key, Marks, NumberHasher, Types, Value, Watch, new_marks, reaches, share, so_far,
 };
-use crate::waiting::{End, Plan, Work};
+use crate::waiting::Plan;
 use moka::common::builder_utils::BuildError;
 use moka::policy::EvictionPolicy;
 use moka::sync::builder::Single;
@@ -27,8 +27,7 @@ impl<R: Wait + Clock + Threads + Abort + Copy + Drop + Send + Sync> Whole for R 
 /// A shared cache with one lock.
 pub(crate) type OneLock<W> = Cache<Key<W>, Value<W>, Types<W>, W>;
 
-/// A cache with one lock, or with four: one for each segment, which the two highest bits of a key
-/// choose.
+/// A cache with one lock, or with four segments, which the two highest bits of a key choose.
 #[derive(Drop)]
 pub(crate) enum Any<W: Wait + Clock + Copy + Drop> {
     One(OneLock<W>),
@@ -122,7 +121,7 @@ fn try_cache<W: Whole>(
 }
 
 impl<W: Whole> World<W> {
-    /// Sets the clock to one second, when all that was written before has expired.
+    /// Sets the clock to one second.
     pub(crate) fn let_all_expire(&self) {
         self.marks.moment.store(1_000_000_000, Ordering::SeqCst);
     }
@@ -146,9 +145,9 @@ impl<W: Whole> World<W> {
             Scene::LeavesNotice(call) => Ok(self.leaves_a_notice(call)),
             Scene::Reads(call, is_live, wanted) => Ok(self.reads_clock(call, is_live, wanted)),
             Scene::Walks => self.all_come(),
-            Scene::Waits(call, end) => self.waits_for_a_turn(call, end),
+            Scene::Waits(call, ends) => self.waits_for_a_turn(call, ends),
             Scene::SharesError => self.shares_an_error(),
-            Scene::WorksTogether(work) => self.work_together(work),
+            Scene::WorksTogether(call) => self.work_together(call),
             Scene::Meets(call) => self.meet(call),
             Scene::GivesUp(plan) => self.give_up(plan),
         }
@@ -162,9 +161,9 @@ pub(crate) enum Scene {
     LeavesNotice(Call),
     Reads(Call, bool, u64),
     Walks,
-    Waits(Call, End),
+    Waits(Call, bool),
     SharesError,
-    WorksTogether(Work),
+    WorksTogether(Call),
     Meets(Call),
     GivesUp(Plan),
 }
