@@ -61,7 +61,8 @@ fn add_line(maker: &Maker, line: Option<&Line>, steps: &mut Vec<OneStep>) -> Res
 /// Creates the steps of these lines, 16 at most. (A loop would owe an invariant.)
 #[tactic(auto, using(std::proofs::lemmas::List::Elements::recursion_from_All))]
 pub fn steps_of(maker: &Maker, lines: &[Line]) -> Result<Vec<OneStep>, AllocError>
-    ensures { IfOk result (λ steps. AllByRecursion (StepKeeps ⟦<Types<NoListener> as CacheTypes<Key, Value>>⟧.keeps
+    ensures { IfOk result (λ steps. AllByRecursion
+        (StepKeeps ⟦<Types<NoListener> as CacheTypes<Key, Value>>⟧.keeps
         ⟦<OneOf as Predicate<Key, Value>>⟧.tests
         ⟦<Types<NoListener> as CacheTypes<Key, Value>>⟧.test) steps.items) }
 {
