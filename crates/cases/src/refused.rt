@@ -240,7 +240,8 @@ pub fn begin_of(call: Call) -> Option<Call> {
     Some(Call::Turn(Turned::Begin(loads, By::Ref, key, unwanted)))
 }
 
-fn loads_of(form: Form) -> (Loads, Option<u64>) {
+/// Returns the kind of a loader's turn, and the value that it replaces.
+pub fn loads_of(form: Form) -> (Loads, Option<u64>) {
     match form {
         Form::With(_) | Form::OlderWith(_) => (Loads::With, None),
         Form::WithIf(_, unwanted) => (Loads::With, Some(unwanted)),
@@ -249,7 +250,8 @@ fn loads_of(form: Form) -> (Loads, Option<u64>) {
     }
 }
 
-fn selected_loads(select: Select) -> Option<(Loads, Option<u64>)> {
+/// Returns the same of a selector's call, if it is a loader.
+pub fn selected_loads(select: Select) -> Option<(Loads, Option<u64>)> {
     Some(match select {
         Select::OrInsertWith(_) => (Loads::With, None),
         Select::OrInsertWithIf(_, unwanted) => (Loads::With, Some(unwanted)),

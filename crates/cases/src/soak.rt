@@ -2,8 +2,8 @@
 //! stored is in the cache in the end, or was reported to the listener once. No other was reported.
 
 use crate::call::{All, Call, Look, TurnId, Turned, Walk, Write};
+use crate::draws::{Draws, is_of};
 use crate::hands::{Hands, let_go};
-use crate::random::{Draws, is_of};
 use crate::returned::{NO_MEMORY, Returned};
 use crate::rules::{Rules, caches, one_cache};
 use crate::run::reply;
@@ -33,8 +33,6 @@ struct Caller<S> {
     subject: S,
     draws: Draws,
     rules: Rules,
-    /// How many keys there are, and their quarter.
-    keys: (u64, Option<u64>),
     /// The values that were stored, and those that the listener was called with.
     stored: Vec<u64>,
     heard: Vec<u64>,
@@ -44,15 +42,17 @@ struct Caller<S> {
 
 impl<S: Subject + Drop> Caller<S> {
     fn new(alloc: Global, subject: S, rules: Rules, seed: u64, number: u64) -> Caller<S> {
-        let mut draws = Draws::new(seed, None);
-        let keys = if draws.one_in(3) { 40 } else { 4 };
+        let mut of_all = Draws::new(seed, None);
+        of_all.choose_keys();
         let first = number.wrapping_mul(ROUNDS);
+        let mut draws = Draws::new(seed.wrapping_mul(100).wrapping_add(number), Some(first));
+        draws.keys = of_all.keys;
+        draws.quarter = of_all.quarter;
         Caller {
             alloc,
             subject,
-            draws: Draws::new(seed.wrapping_mul(100).wrapping_add(number), Some(first)),
+            draws,
             rules,
-            keys: (keys, draws.maybe(4)),
             stored: Vec::new(alloc),
             heard: Vec::new(alloc),
             wrong: Vec::new(alloc),
@@ -103,7 +103,7 @@ impl<S: Subject + Drop> Caller<S> {
     // Begins a turn, and ends it, or waits for it a little. None of the calls in between waits, so
     // nobody waits for ever.
     fn fly(&mut self, hands: &mut Hands) -> Result<Returned> {
-        let key = self.draws.key(self.keys.0, self.keys.1);
+        let key = self.draws.key();
         let (kind, begin) = self.draws.begin(key);
         match self.make(hands, Call::Turn(begin))? {
             Returned::Run(number) | Returned::Shows(number, _) => {
@@ -148,7 +148,7 @@ impl<S: Subject + Drop> Caller<S> {
             if self.draws.one_in(6) {
                 self.fly(hands)?;
             } else {
-                let call = self.draws.call(self.keys.0, self.keys.1);
+                let call = self.draws.call();
                 self.make(hands, call)?;
             }
         }
