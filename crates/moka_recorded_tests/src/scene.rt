@@ -65,7 +65,7 @@ pub(crate) type Tally = [u64; 6];
 
 /// A scene that is played.
 #[derive(Drop)]
-struct Play<R> {
+struct Stage<R> {
     rt: R,
     alloc: Global,
     marks: Arc<Marks>,
@@ -79,7 +79,7 @@ where
 {
     for _ in 0..2 {
         if let Ok(marks) = Arc::new(alloc, Marks::new(scene.refused_clone)) {
-            let on = Play {
+            let on = Stage {
                 rt,
                 alloc,
                 marks,
@@ -102,7 +102,7 @@ where
 }
 
 /// Plays a scene. Returns false if memory is refused before the cache is there.
-fn run<W>(rt: W, on: &Play<W>) -> Result<bool, Fail>
+fn run<W>(rt: W, on: &Stage<W>) -> Result<bool, Fail>
 where
     W: Wait + Clock + Threads + Abort + Copy + Drop + Send + Sync,
 {
@@ -121,7 +121,7 @@ where
 
 fn run_recorded<L, W>(
     rt: W,
-    on: &Play<W>,
+    on: &Stage<W>,
     state: Owned<PlainRecorded>,
     opened: Opened<PlainRecorded>,
     blank: Blank,
@@ -163,7 +163,7 @@ where
 }
 
 /// Plays the rows of one thread, each by its pass.
-fn play_first<R, C, L, W>(on: &Play<R>, cache: &Recorded<C, L, W>, passes: &mut [Pass<C, L>])
+fn play_first<R, C, L, W>(on: &Stage<R>, cache: &Recorded<C, L, W>, passes: &mut [Pass<C, L>])
 where
     R: Clock + Abort + Copy,
     C: CacheTypes<u64, Scarce>,
@@ -186,7 +186,7 @@ where
 }
 
 /// Plays the rows of a pass.
-fn play_part<R, C, L, W>(on: &Play<R>, cache: &Recorded<C, L, W>, pass: &mut Pass<C, L>)
+fn play_part<R, C, L, W>(on: &Stage<R>, cache: &Recorded<C, L, W>, pass: &mut Pass<C, L>)
 where
     R: Clock + Abort + Copy,
     C: CacheTypes<u64, Scarce>,
@@ -209,7 +209,7 @@ impl<R: Clock + Abort + Copy, L: Naming, W: Wait + Drop> Job<
     Recorded<PlainRecorded, L, W>,
     Pass<PlainRecorded, L>,
     (),
-> for Play<R> {
+> for Stage<R> {
     fn work(&self, cache: &Recorded<PlainRecorded, L, W>, pass: &mut Pass<PlainRecorded, L>) {
         play_part(self, cache, pass);
     }
