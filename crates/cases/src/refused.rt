@@ -170,7 +170,7 @@ pub fn number_of(pairs: &[(Name, u64)], lefts: &[Left]) -> u64 {
 pub fn came(pairs: &[(Name, u64)]) -> u64 {
     let mut came = 0_u64;
     for (key, _) in pairs.iter() {
-        let quarter = (key.0 / QUARTER) as u32;
+        let quarter = (key.0 / QUARTER % 4) as u32;
         came = came.wrapping_add(1_u64.wrapping_shl(quarter.wrapping_mul(16)));
     }
     came
