@@ -4,6 +4,7 @@ ghost use Rattle.moka_policy.specs.Policy.{is_lru};
 ghost use Rattle.moka_table.specs.Table.{entries, UsesRow};
 ghost use Rattle.moka_expiration.specs.ExpirationPolicy.{AreDated};
 ghost use Rattle.moka_housekeeper.specs.Maintain.{IsMaintained, IsMaintainedUpTo};
+ghost use Rattle.moka_table.specs.declared.write_slot.WritePlan.TheVariants.{AfterFlush};
 ghost use Rattle.moka_table.specs.WriteSlot.{HasSlot};
 ghost use Rattle.moka_housekeeper.specs.Write.{HasPlan, IsSlotOf, WritesAt};
 ghost use Rattle.moka_housekeeper.specs.Hit.{UsesAt};
@@ -15,9 +16,10 @@ use moka_expiration::expiration_policy::ExpirationPolicy;
 use moka_expiration::view::BehaviourView;
 use moka_policy::policy::{CacheTypes, EvictionPolicy, FrequencySource};
 use moka_rows::rows::{Access, RowId, RowStore};
-use moka_table::table::Table;
+use moka_table::table::{Lookup, Table};
 use moka_table::write_slot::{NewValue, WritePlan, WriteSlot};
 use std::hash::Hash;
+use std::sync::Arc;
 
 /// What a maintenance depends on, beside the rows and the policy.
 #[derive(Drop)]
@@ -127,10 +129,34 @@ impl<F: FrequencySource> Housekeeper<F> {
         match plan {
             WritePlan::Now(slot) => slot,
             WritePlan::AfterFlush { lookup, key } => {
-                self.maintain_up_to(table, policy, now, flush_limit);
-                table.slot_now(lookup, key, hash)
+                self.slot_after_flush(table, lookup, key, hash, now, policy, flush_limit)
             }
         }
+    }
+
+    /// Runs a flush within `flush_limit`, and returns the slot of a write that follows the flush.
+    ///
+    /// It stands apart because few writes flush, and with it inside a write is too long to be
+    /// inlined.
+    #[inline(never)]
+    fn slot_after_flush<K: Eq + Drop, V: Drop, R: RowStore<K, V>>(
+        &self,
+        table: &mut Table<K, V, R>,
+        lookup: Lookup<K>,
+        key: Arc<K>,
+        hash: u64,
+        now: u64,
+        policy: EvictionPolicy,
+        flush_limit: Option<u64>,
+    ) -> WriteSlot<K>
+        ensures slot { AreDated self.now.lives (entries table.old) → IsSlotOf K.eq self.now.lives
+            (is_lru policy) (F.count self.now.source) self.now.max_capacity flush_limit
+            (AfterFlush lookup key) hash now table.old table.new result }
+        ensures stored { HasSlot result table.new }
+        ensures room { table.old.room ≤ table.new.room }
+    {
+        self.maintain_up_to(table, policy, now, flush_limit);
+        table.slot_now(lookup, key, hash)
     }
 
     /// Applies an access to a row whose value is live, and notes the hash of its key.
