@@ -11,7 +11,7 @@ use std::test::Fail;
 use std::time::Duration;
 
 /// A struct of a user's own, with fields of many types.
-#[derive(Clone, Debug, PartialEq, Drop)]
+#[derive(Clone, PartialEq, Drop)]
 struct Page {
     title: String,
     body: Vec<u8>,
@@ -26,7 +26,7 @@ impl CopiesCompose for Page {
 }
 
 /// A struct of structs.
-#[derive(Clone, Debug, PartialEq, Drop)]
+#[derive(Clone, Drop)]
 struct Book {
     cover: Page,
     pages: Vec<Page>,
@@ -37,7 +37,7 @@ impl CopiesCompose for Book {
 }
 
 /// An enum of a user's own, with a type parameter.
-#[derive(Clone, Debug, PartialEq, Drop)]
+#[derive(Clone, PartialEq, Drop)]
 enum Form<T> {
     Point,
     Circle(u32, T),
