@@ -31,12 +31,7 @@ const SKETCHED: [Case; 6] = [
     (&[(1, 2), (5, 1)], &[(9, 3), (2, 0)]),
     (&[(1, 3), (16_385, 1)], &[(16_385, 1), (1, 3), (2, 0)]),
     (
-        &[
-            (1, 1),
-            (16_384, 1),
-            (268_435_456, 1),
-            (4_398_046_511_104, 1),
-        ],
+        &[(1, 1), (1 << 14, 1), (1 << 28, 1), (1 << 42, 1)],
         &[(4_398_314_962_945, 1), (1, 1)],
     ),
     (&[(1, 30), (2, 9)], &[(1, 15), (2, 9)]),
@@ -48,6 +43,16 @@ const NOTHING: [Case; 1] = [(
     &[(0, 1), (1, 2), (u64::MAX, 1)],
     &[(0, 0), (1, 0), (u64::MAX, 0)],
 )];
+
+/// Two notes of a hash and one of the same lowest bits, 0, 1, 12, 19 or 20. Then the estimate of a third
+/// hash of these bits, and that of a hash which differs in the highest of them.
+const BY_BITS: [[Case; 1]; 5] = [
+    [(&[(5, 2), (6, 1)], &[(7, 3), (5, 3)])],
+    [(&[(5, 2), (7, 1)], &[(9, 3), (4, 0)])],
+    [(&[(5, 2), (4_101, 1)], &[(8_197, 3), (2_053, 0)])],
+    [(&[(5, 2), (524_293, 1)], &[(1_048_581, 3), (262_149, 0)])],
+    [(&[(5, 2), (1_048_581, 1)], &[(2_097_157, 3), (524_293, 0)])],
+];
 
 fn estimates<F: FrequencySource>(
     rt: &impl Abort,
@@ -82,29 +87,15 @@ fn each_source_estimates_notes(rt: HostRuntime) -> Result<(), Fail> {
     estimates::<NoFrequency>(&rt, rt.alloc(), &NOTHING)
 }
 
-/// Notes a hash twice and one of the same lowest bits once. Checks the estimate of a third hash of
-/// these bits, and that of a hash which differs in one of them.
-fn counts<const BITS: u32>(rt: &impl Abort, alloc: Global) -> Result<(), Fail> {
-    let counters = 1_u64 << BITS.min(20);
-    let mut table = CountTable::<BITS>::opening(alloc)?;
-    for hash in [5, 5, counters.wrapping_add(5)] {
-        table.note(hash);
-    }
-    let like = counters.wrapping_mul(2).wrapping_add(5);
-    let other = if BITS == 0 { 3 } else { 0 };
-    assert_eq!(rt; table.estimate(like), 3, "{BITS} bits");
-    assert_eq!(rt; table.estimate((counters / 2) ^ 5), other, "{BITS} bits");
-    Ok(())
-}
-
 /// A table of any number of bits is made, and counts by as many of the lowest bits, 20 at most.
 #[test]
 fn a_table_of_any_size_counts_by_the_lowest_bits(rt: HostRuntime) -> Result<(), Fail> {
-    counts::<0>(&rt, rt.alloc())?;
-    counts::<1>(&rt, rt.alloc())?;
-    counts::<12>(&rt, rt.alloc())?;
-    counts::<19>(&rt, rt.alloc())?;
-    counts::<20>(&rt, rt.alloc())?;
-    counts::<21>(&rt, rt.alloc())?;
-    counts::<24>(&rt, rt.alloc())
+    let [no_bit, one, twelve, nineteen, twenty] = BY_BITS;
+    estimates::<CountTable<0>>(&rt, rt.alloc(), &no_bit)?;
+    estimates::<CountTable<1>>(&rt, rt.alloc(), &one)?;
+    estimates::<CountTable<12>>(&rt, rt.alloc(), &twelve)?;
+    estimates::<CountTable<19>>(&rt, rt.alloc(), &nineteen)?;
+    estimates::<CountTable<20>>(&rt, rt.alloc(), &twenty)?;
+    estimates::<CountTable<21>>(&rt, rt.alloc(), &twenty)?;
+    estimates::<CountTable<24>>(&rt, rt.alloc(), &twenty)
 }

@@ -1,5 +1,5 @@
-//! The tests of pieces that are no cache: the row stores, the table of turns, the loop that waits for
-//! turns, what a builder refuses, the types of policies and values, and printed text.
+//! The tests of pieces that are no cache: the row stores, the loop that waits for turns, what a builder
+//! refuses, the types of policies and values, and printed text.
 #![tactic(auto)]
 
 #[cfg(test)]
@@ -7,18 +7,12 @@ mod building;
 #[cfg(test)]
 mod frequencies;
 #[cfg(test)]
-mod lines;
-#[cfg(test)]
 mod policies;
-#[cfg(test)]
-mod rows;
 #[cfg(test)]
 mod single_flight;
 #[cfg(test)]
 mod step_text;
 #[cfg(test)]
 mod stores;
-#[cfg(test)]
-mod turns;
 #[cfg(test)]
 mod values;

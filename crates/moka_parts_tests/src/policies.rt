@@ -1,13 +1,12 @@
 //! The types of policies: closures of the caller, each called by the trait by which a cache calls it,
 //! the running clock, and what stands where nothing is chosen.
-ghost use Rattle.std.specs.Prelude.{◌≡◌, ◌==◌, ◌+◌, refl, ⊤};
-ghost use Rattle.std.specs.Arc.{arc_value};
+ghost use Rattle.std.specs.Prelude.{◌≡◌, ◌==◌, refl};
 ghost use Rattle.moka_parts_tests.specs.Lifetimes.{in_seconds};
 
 use moka_model::notification::RemovalCause;
 use moka_policy::policy::{
-    Clock, EvictionPolicy, ExpireBy, Expiry, HoldsIf, ListenBy, Listener, NoExpiry, NoPredicate,
-    NoWeigher, NumberHash, Predicate, WeighBy, Weigher,
+    Clock, EvictionPolicy, ExpireBy, Expiry, HoldsIf, NoExpiry, NoPredicate, NoWeigher, NumberHash,
+    Predicate, WeighBy, Weigher,
 };
 use moka_presets::clock::RunningClock;
 use moka_presets::meant::{Lives, Meant, Tests, Weighs};
@@ -20,12 +19,10 @@ use std::test::Fail;
 use std::time::Duration;
 use std::{io, time};
 
-/// What the closures compute: the value as its weight, whether a value equals `limit`, and a
+/// What the closures compute: the value as its weight, whether a value equals this one, and a
 /// lifetime of as many seconds as the value.
-#[derive(Drop)]
-struct Says {
-    limit: u64,
-}
+#[derive(Clone, Copy)]
+struct Says(u64);
 
 impl Weighs<u64, u32> for Says {
     ghost weight = { λ _ _ value. value };
@@ -34,7 +31,7 @@ impl Weighs<u64, u32> for Says {
 }
 
 impl Tests<u64, u64> for Says {
-    ghost test = { λ says _ value. value == says.limit };
+    ghost test = { λ says _ value. value == says.0 };
 }
 
 impl Lives<u64, u64> for Says {
@@ -55,18 +52,16 @@ fn holds<P: SteadyPredicate<u64, u64>>(rt: &impl Abort, predicate: &P, of_three:
 }
 
 /// Checks the lifetimes after a creation, an access and an update. The last two have 3 seconds left.
-fn gives<E: SteadyExpiry<u64, u64>>(
-    rt: &impl Abort,
-    expiry: &E,
-    created: Option<Duration>,
-    updated: Option<Duration>,
-)
+fn gives<E: SteadyExpiry<u64, u64>>(rt: &impl Abort, expiry: &E, lives: [Option<Duration>; 3])
     requires { E.gives expiry.now (E.lifetimes expiry.now) }
 {
     let rest = Some(Duration::from_secs(3));
-    assert_eq!(rt; expiry.expire_after_create(&1, &7, 0), created);
-    assert_eq!(rt; expiry.expire_after_read(&1, &7, 1, rest, 0), rest);
-    assert_eq!(rt; expiry.expire_after_update(&1, &7, 2, rest), updated);
+    let given = [
+        expiry.expire_after_create(&1, &7, 0),
+        expiry.expire_after_read(&1, &7, 1, rest, 0),
+        expiry.expire_after_update(&1, &7, 2, rest),
+    ];
+    assert_eq!(rt; given, lives);
 }
 
 /// Closures in a `Meant` weigh, test and give lifetimes, each called once a time. Without a weigher each
@@ -75,21 +70,17 @@ fn gives<E: SteadyExpiry<u64, u64>>(
 fn closures_weigh_test_and_give_lifetimes(rt: HostRuntime) -> Result<(), Fail> {
     let calls = Arc::new(rt.alloc(), AtomicU64::new(0))?;
     let (weighed, tested, created) = (calls.clone()?, calls.clone()?, calls.clone()?);
+    let (read, updated) = (calls.clone()?, calls.clone()?);
     let weigher = WeighBy::new(move |_key: &u64, value: &u32| {
         weighed.fetch_add(1, Ordering::SeqCst);
         *value
     });
-    weighs(&rt, &Meant::new(Says { limit: 3 }, weigher), 7);
-    weighs(&rt, &NoWeigher, 1);
     let limit = 3;
     let predicate = HoldsIf::new(move |_key: &u64, value: &u64| {
         tested.fetch_add(10, Ordering::SeqCst);
         *value == limit
     });
-    holds(&rt, &Meant::new(Says { limit }, predicate), true);
-    holds(&rt, &NoPredicate, false);
-    let (read, updated) = (calls.clone()?, calls.clone()?);
-    let closures = ExpireBy::new(
+    let expiry = ExpireBy::new(
         move |_key: &u64, value: &u64, _at: u64| {
             created.fetch_add(100, Ordering::SeqCst);
             Some(Duration::from_secs(*value))
@@ -103,30 +94,14 @@ fn closures_weigh_test_and_give_lifetimes(rt: HostRuntime) -> Result<(), Fail> {
             None
         },
     );
-    let expiry = Meant::new(Says { limit: 3 }, closures);
-    gives(&rt, &expiry, Some(Duration::from_secs(7)), None);
-    gives(&rt, &NoExpiry, None, Some(Duration::from_secs(3)));
+    let (life, rest) = (Some(Duration::from_secs(7)), Some(Duration::from_secs(3)));
+    weighs(&rt, &Meant::new(Says(limit), weigher), 7);
+    weighs(&rt, &NoWeigher, 1);
+    holds(&rt, &Meant::new(Says(limit), predicate), true);
+    holds(&rt, &NoPredicate, false);
+    gives(&rt, &Meant::new(Says(limit), expiry), [life, rest, None]);
+    gives(&rt, &NoExpiry, [None, rest, rest]);
     assert_eq!(rt; calls.load(Ordering::SeqCst), 11_121);
-    Ok(())
-}
-
-fn notify<L: Listener<u64, u64>>(listener: &L, key: Arc<u64>, value: u64)
-    requires { L.hears listener.now (arc_value key) value }
-{
-    listener.removed(key, value, RemovalCause::Explicit);
-}
-
-/// A closure listens. It owns what it writes to.
-#[test]
-fn a_closure_listens(rt: HostRuntime) -> Result<(), Fail> {
-    let heard = Arc::new(rt.alloc(), AtomicU64::new(0))?;
-    let sum = heard.clone()?;
-    let listener = ListenBy::new(move |key: Arc<u64>, value: u64, _cause: RemovalCause| {
-        sum.fetch_add(key.wrapping_add(value), Ordering::SeqCst);
-    });
-    let key: Arc<u64> = Arc::new(rt.alloc(), 5)?;
-    notify(&listener, key, 7);
-    assert_eq!(rt; heard.load(Ordering::SeqCst), 12);
     Ok(())
 }
 

@@ -1,6 +1,6 @@
 //! `Debug` of each step, and of the outcomes of a finish.
 
-use moka::policy::{ManualClock, NoExpiry, NoListener, NoPredicate, NoWeigher};
+use moka::policy::{ManualClock, NoExpiry, NoPredicate, NoWeigher};
 use moka::ready::{FoldState, ReadyTypes};
 use moka_model::turns::{Kind, Op, Outcome};
 use moka_state::step::Step;
@@ -9,15 +9,7 @@ use std::alloc::{AllocError, Global};
 use std::sync::Arc;
 use std::test::Fail;
 
-type Types = ReadyTypes<
-    FoldState,
-    NoWeigher,
-    NoExpiry,
-    Arc<ManualClock>,
-    NoPredicate,
-    u64,
-    NoListener,
->;
+type Types = ReadyTypes<FoldState, NoWeigher, NoExpiry, ManualClock, NoPredicate, u64>;
 
 type NumberStep = Step<u64, u64, Types>;
 
@@ -50,29 +42,9 @@ const TEXTS: [&str; 25] = [
     "Leave { name: TurnName { number: 3, kind: Compute, key: 5 } }",
 ];
 
-fn kind_in(text: &str) -> Kind {
-    match text {
-        text if text.contains("kind: With") => Kind::With,
-        text if text.contains("kind: Optionally") => Kind::Optionally,
-        text if text.contains("kind: Try") => Kind::Try,
-        _ => Kind::Compute,
-    }
-}
-
-fn outcome_in(alloc: Global, text: &str) -> Result<Outcome<u64, Arc<u64>>, AllocError> {
-    Ok(match text {
-        text if text.contains("Value") => Outcome::Value(50),
-        text if text.contains("Nothing") => Outcome::Nothing,
-        text if text.contains("Failed") => Outcome::Failed(Arc::new(alloc, 9)?),
-        text if text.contains("Put") => Outcome::Op(Op::Put(50)),
-        text if text.contains("Remove") => Outcome::Op(Op::Remove),
-        _ => Outcome::Op(Op::Nop),
-    })
-}
-
 /// Returns the step of a text.
 fn step_of(alloc: Global, text: &str) -> Result<NumberStep, AllocError> {
-    let (key, value, kind, now) = (Arc::new(alloc, 5)?, 50, kind_in(text), 7);
+    let (key, value, now) = (Arc::new(alloc, 5)?, 50, 7);
     Ok(match text.split_whitespace().next().unwrap_or("") {
         "Get" => Step::Get { key, now },
         "ContainsKey" => Step::ContainsKey { key, now },
@@ -89,50 +61,43 @@ fn step_of(alloc: Global, text: &str) -> Result<NumberStep, AllocError> {
         "EntryCount" => Step::EntryCount,
         "WeightedSize" => Step::WeightedSize,
         "TakeNotice" => Step::TakeNotice,
-        name => turn_step(
-            alloc,
-            text,
-            name,
-            TurnName {
-                number: 3,
-                kind,
-                key,
-            },
-        )?,
+        what => step_of_turn(alloc, text, what, key)?,
     })
 }
 
-fn turn_step(
+/// Returns the step about a turn. Its kind says how it ends, but for a compute.
+fn step_of_turn(
     alloc: Global,
     text: &str,
-    name: &str,
-    turn: TurnName<u64>,
+    what: &str,
+    key: Arc<u64>,
 ) -> Result<NumberStep, AllocError> {
-    let (key, kind, now) = (turn.key.clone()?, turn.kind, 7);
-    Ok(match name {
-        "Begin" => Step::Begin {
+    let (kind, outcome) = match text {
+        _ if text.contains("With") => (Kind::With, Outcome::Value(50)),
+        _ if text.contains("Optionally") => (Kind::Optionally, Outcome::Nothing),
+        _ if text.contains("Try") => (Kind::Try, Outcome::Failed(Arc::new(alloc, 9)?)),
+        _ if text.contains("Put") => (Kind::Compute, Outcome::Op(Op::Put(50))),
+        _ if text.contains("Remove") => (Kind::Compute, Outcome::Op(Op::Remove)),
+        _ => (Kind::Compute, Outcome::Op(Op::Nop)),
+    };
+    let (number, keep, replace, now) = (3, true, text.contains("true").then_some(true), 7);
+    if what == "Begin" {
+        return Ok(Step::Begin {
             key,
             kind,
-            replace: if text.contains("true") {
-                Some(true)
-            } else {
-                None
-            },
+            replace,
             now,
-        },
-        "BeginCompute" => Step::BeginCompute {
-            key,
-            keep: true,
-            now,
-        },
-        "Finish" => Step::Finish {
-            name: turn,
-            outcome: outcome_in(alloc, text)?,
-            now,
-        },
-        "Abandon" => Step::Abandon { name: turn },
-        "Collect" => Step::Collect { name: turn },
-        _ => Step::Leave { name: turn },
+        });
+    }
+    if what == "BeginCompute" {
+        return Ok(Step::BeginCompute { key, keep, now });
+    }
+    let name = TurnName { number, kind, key };
+    Ok(match what {
+        "Finish" => Step::Finish { name, outcome, now },
+        "Abandon" => Step::Abandon { name },
+        "Collect" => Step::Collect { name },
+        _ => Step::Leave { name },
     })
 }
 

@@ -11,11 +11,10 @@ use std::test::Fail;
 use std::time::Duration;
 
 /// A struct of a user's own, with fields of many types.
-#[derive(Clone, Debug, PartialEq, Drop)]
+#[derive(Clone, PartialEq, Drop)]
 struct Page {
     title: String,
     body: Vec<u8>,
-    tags: Vec<String>,
     author: Option<String>,
     life: Duration,
     marks: [u16; 3],
@@ -27,7 +26,7 @@ impl CopiesCompose for Page {
 }
 
 /// A struct of structs.
-#[derive(Clone, Debug, PartialEq, Drop)]
+#[derive(Clone, Drop)]
 struct Book {
     cover: Page,
     pages: Vec<Page>,
@@ -38,7 +37,7 @@ impl CopiesCompose for Book {
 }
 
 /// An enum of a user's own, with a type parameter.
-#[derive(Clone, Debug, PartialEq, Drop)]
+#[derive(Clone, PartialEq, Drop)]
 enum Form<T> {
     Point,
     Circle(u32, T),
@@ -51,8 +50,7 @@ impl<T: CopiesCompose> CopiesCompose for Form<T> {
 
 // Returns a clone of a clone.
 fn copy_twice<T: CopiesCompose>(value: &T) -> Result<T, AllocError> {
-    let copy = value.clone()?;
-    copy.clone()
+    value.clone()?.clone()
 }
 
 /// A clone of a clone of a struct or an enum equals it.
@@ -61,16 +59,14 @@ fn a_value_is_copied_on(rt: HostRuntime) -> Result<(), Fail> {
     let page = Page {
         title: String::from_str(rt.alloc(), "A")?,
         body: vec![in rt.alloc(); 1, 2]?,
-        tags: Vec::new(rt.alloc()),
         author: None,
         life: Duration::from_secs(1),
         marks: [1, 2, 3],
         pairs: Vec::new(rt.alloc()),
     };
-    assert!(rt; copy_twice(&page)? == page);
     let form = Form::Named {
         name: String::from_str(rt.alloc(), "A")?,
-        parts: vec![in rt.alloc(); 1_u64, 2]?,
+        parts: vec![in rt.alloc(); page]?,
     };
     assert!(rt; copy_twice(&form)? == form);
     assert!(rt; copy_twice(&Form::Circle(1, 2_u8))? == Form::Circle(1, 2_u8));
@@ -84,19 +80,11 @@ fn copies_on<T: CopiesCompose>() {}
 /// Many types of std have `CopiesCompose`, and so has a struct of structs.
 #[test]
 fn many_types_are_copied_on(_rt: HostRuntime) -> Result<(), Fail> {
-    copies_on::<Book>();
-    copies_on::<Result<Option<u8>, String>>();
+    copies_on::<(Book, Result<Option<u8>, String>, VecDeque<Box<String>>)>();
     copies_on::<(u128, i8, i16, i128, isize, f64)>();
-    copies_on::<(f32, char, bool, &'static str, Arc<u8>)>();
-    copies_on::<VecDeque<Box<String>>>();
-    copies_on::<[Vec<u8>; 4]>();
+    copies_on::<(f32, char, bool, &'static str, Arc<u8>, [Vec<u8>; 4])>();
     copies_on::<(Cow<'static, u64>, CowStr<'static>)>();
     copies_on::<(BTreeMap<u64, String>, BTreeSet<String>)>();
-    copies_on::<
-        (
-            HashMap<u64, String, RandomState>,
-            HashSet<String, RandomState>,
-        ),
-    >();
+    copies_on::<(HashMap<u64, u8, RandomState>, HashSet<u8, RandomState>)>();
     Ok(())
 }

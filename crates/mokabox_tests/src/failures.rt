@@ -35,35 +35,30 @@ impl Sink {
 
 impl Write for Sink {
     fn write(&mut self, buf: &[u8]) -> io::Result<usize> {
+        self.flush()?;
         let length = self.room.min(buf.len());
-        if length < buf.len() && length == 0 {
-            return Err(Error::from(ErrorKind::Other));
-        }
         self.taken.extend_from_slice(&buf[..length])?;
         self.room -= length;
         Ok(length)
     }
 
     fn flush(&mut self) -> io::Result<()> {
-        if self.room == 0 {
-            return Err(Error::from(ErrorKind::Other));
+        match self.room {
+            0 => Err(Error::from(ErrorKind::Other)),
+            _ => Ok(()),
         }
-        Ok(())
     }
 }
 
-// A writer that is full fails the run, at a write or when it is flushed.
+// A writer that is full fails the run, at a write or when it is flushed, and so does a full device.
 #[test]
 fn a_writer_that_is_full_fails_the_run(rt: HostRuntime) -> Result<(), Fail> {
     let usage = [String::from_str(rt.alloc(), "threads")?];
     for (arguments, script, wanted) in [
         ([].as_slice(), "", ""),
         (&[], "new", "ok\n"),
-        (
-            &[],
-            "new\ninsert 1 a\nget 1\nhas 2\n",
-            "ok\nok\nsome a\nfalse\n",
-        ),
+        (&[], "new\ninsert 1 a\nget 1\n", "ok\nok\nsome a\n"),
+        (&[], "new\nhas 2\n", "ok\nfalse\n"),
         (&[], "new\nnew\n", "ok\nbad line\n"),
         (&[], "\n", "bad line\n"),
         (&usage, "", "usage: mokabox [threads N]\n"),
@@ -76,20 +71,15 @@ fn a_writer_that_is_full_fails_the_run(rt: HostRuntime) -> Result<(), Fail> {
             assert_eq!(rt; sink.taken.as_slice(), &wanted[..room]);
         }
     }
-    Ok(())
-}
-
-// On a full device the run fails when it flushes what it printed.
-#[test]
-fn a_full_device_fails_the_run(rt: HostRuntime) -> Result<(), Fail> {
-    let mut writer = BufWriter::new(rt.alloc(), fs::create(&rt, "/dev/full")?)?;
+    let mut device = BufWriter::new(rt.alloc(), fs::create(&rt, "/dev/full")?)?;
     let script = b"new\n".as_slice();
-    let status = run_program(rt.alloc(), &[], script, &mut writer, &mut io::sink());
+    let status = run_program(rt.alloc(), &[], script, &mut device, &mut io::sink());
     assert_eq!(rt; status, Status::Failed);
     Ok(())
 }
 
-// A reader that fails fails the run, after the lines that were read.
+// A reader that fails fails the run, after the lines that were read. Arguments are answered before
+// anything is read.
 #[test]
 fn a_broken_reader_fails_the_run(rt: HostRuntime) -> Result<(), Fail> {
     for (script, wanted, status) in [
@@ -112,22 +102,12 @@ fn a_broken_reader_fails_the_run(rt: HostRuntime) -> Result<(), Fail> {
             assert_eq!(rt; printed.as_slice(), wanted.as_bytes(), "of {script:?}");
         }
     }
-    Ok(())
-}
-
-// Arguments are answered before anything is read.
-#[test]
-fn no_argument_has_a_script_read(rt: HostRuntime) -> Result<(), Fail> {
-    for (word, status) in [
-        ("threads", Status::Bad),
-        ("--help", Status::Done),
-        ("--version", Status::Done),
-    ] {
+    for (word, code) in [("threads", 2), ("--help", 0), ("--version", 0)] {
         let arguments = [String::from_str(rt.alloc(), word)?];
         let reader = BufReader::new(rt.alloc(), Broken)?;
         let (printed, reports) = (&mut io::sink(), &mut io::sink());
         let ended = run_program(rt.alloc(), &arguments, reader, printed, reports);
-        assert_eq!(rt; ended, status, "of {word}");
+        assert_eq!(rt; ended.code(), code, "of {word}");
     }
     Ok(())
 }
@@ -136,13 +116,11 @@ fn no_argument_has_a_script_read(rt: HostRuntime) -> Result<(), Fail> {
 #[test]
 fn a_report_that_cannot_be_written_is_dropped(rt: HostRuntime) -> Result<(), Fail> {
     for room in [0, 10] {
-        let mut printed = Vec::new(rt.alloc());
-        let mut reports = Sink::new(rt.alloc(), room);
+        let (mut printed, mut reports) = (Vec::new(rt.alloc()), Sink::new(rt.alloc(), room));
         let script = b"new\nnew\nhas 1\nnew\n".as_slice();
         let status = run_program(rt.alloc(), &[], script, &mut printed, &mut reports);
-        assert_eq!(rt; status, Status::Bad);
-        let wanted = b"ok\nbad line\nfalse\nbad line\n";
-        assert_eq!(rt; printed.as_slice(), wanted.as_slice());
+        let wanted = b"ok\nbad line\nfalse\nbad line\n".as_slice();
+        assert_eq!(rt; (status, printed.as_slice()), (Status::Bad, wanted));
         assert_eq!(rt; reports.taken.len(), room);
     }
     Ok(())
@@ -151,15 +129,17 @@ fn a_report_that_cannot_be_written_is_dropped(rt: HostRuntime) -> Result<(), Fai
 // What the program prints only where memory is refused, and what it never prints, has its line.
 #[test]
 fn refusals_have_their_lines(rt: HostRuntime) -> Result<(), Fail> {
-    let no_memory = PredicateError::OutOfMemory;
-    for (output, line) in [
-        (OutputLine::Refused(Refused::OutOfMemory), "refused 1\n"),
-        (OutputLine::Refused(Refused::TurnIsOpen), "refused 5\n"),
-        (OutputLine::NotHidden(no_memory), "error 2\n"),
+    let mut written = Vec::new(rt.alloc());
+    for output in [
+        OutputLine::Refused(Refused::OutOfMemory),
+        OutputLine::Refused(Refused::TurnIsOpen),
+        OutputLine::NotHidden(PredicateError::OutOfMemory),
     ] {
-        let mut written = Vec::new(rt.alloc());
         write_line(&mut written, &output)?;
-        assert_eq!(rt; written.as_slice(), line.as_bytes(), "of {line:?}");
     }
+    assert_eq!(rt;
+        written.as_slice(),
+        b"refused 1\nrefused 5\nerror 2\n".as_slice()
+    );
     Ok(())
 }

@@ -32,11 +32,8 @@ impl<R: Clock> Gate for Meeting<R> {
 // Two workers run at the same time: one after another, they would not meet.
 #[test]
 fn workers_run_beside_each_other(rt: HostRuntime) -> Result<(), Fail> {
-    let gate = Meeting {
-        rt,
-        came: AtomicU64::new(0),
-        met: AtomicU64::new(0),
-    };
+    let (came, met) = (AtomicU64::new(0), AtomicU64::new(0));
+    let gate = Meeting { rt, came, met };
     run_threads(rt, rt.alloc(), 2, &gate, &mut Vec::new(rt.alloc()))?;
     assert_eq!(rt; gate.met.load(Ordering::SeqCst), 2);
     Ok(())
@@ -50,8 +47,7 @@ fn workers_are_refused_where_memory_is(rt: HostRuntime) -> Result<(), Fail> {
         Ok(written) => written,
         Err(_) => Vec::with_capacity(rt.alloc(), 64)?,
     };
-    let ended = run_threads(rt, rt.alloc(), 2, &OpenGate, &mut written)?;
-    let line = match ended {
+    let line = match run_threads(rt, rt.alloc(), 2, &OpenGate, &mut written)? {
         Ended::Counted => "workers 2 present 96 absent 32\n",
         Ended::Refused => "refused 1\n",
     };

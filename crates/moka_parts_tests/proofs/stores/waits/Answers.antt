@@ -1,7 +1,7 @@
 use Rattle.std.proofs.Common.{◌≡◌, ℕ, Bool, true, false, not, List, ◌++◌, Option, Some, None, IsSome, MatchOption, sym, ap, subst, ◌∙◌, refl}
 use Rattle.moka_rows.specs.Rows.{row_under}
 use Rattle.moka_rows.proofs.Callers.{row_under-append_right}
-use Rattle.moka_parts_tests.proofs.rows.waits.Goals as goal
+use Rattle.moka_parts_tests.proofs.stores.waits.Goals as goal
 
 -- a stored row that is not admitted is pending
 waiting : {R : Type 0} (n : ℕ) (admitted waits : List (ℕ × R)) (said : Bool) → IsSome (row_under n (admitted ++ waits))
