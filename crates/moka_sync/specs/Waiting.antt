@@ -1,6 +1,8 @@
 -- What callers that wait for each other's turns ask for, and what they get.
 use Rattle.std.specs.Prelude.{◌≡◌, IfSome, Option, Some, None, Result, Ok, Err}
-use Rattle.std.specs.Arc.{Arc, arc_value}
+use Rattle.std.specs.Arc.{arc_value}
+use Rattle.std.specs.declared.sync.Arc.{Arc}
+use Rattle.std.specs.declared.alloc.Global.{Global}
 use Rattle.moka_model.specs.declared.turns.Kind.{Kind}
 use Rattle.moka_model.specs.declared.turns.Kind.TheVariants.{Compute}
 use Rattle.moka_single_flight.specs.declared.replies.Begun.{Begun}
@@ -26,11 +28,11 @@ abbrev pub AsksSame : {K P : Type 0} → InitializerData K P → InitializerData
 AsksSame old new = (new.key ≡ old.key) × (new.kind ≡ old.kind)
 
 -- A key that is shared, or still its caller's own.
-abbrev pub asked_key : {K : Type 0} → Result (Arc K) K → K
+abbrev pub asked_key : {K : Type 0} → Result (Arc K Global) K → K
 asked_key (Ok shared) = arc_value shared
 asked_key (Err own) = own
 
-abbrev pub asked : {K : Type 0} → Option (Result (Arc K) K) → Option K
+abbrev pub asked : {K : Type 0} → Option (Result (Arc K Global) K) → Option K
 asked None = None
 asked (Some key) = Some (asked_key key)
 
