@@ -162,8 +162,10 @@ impl<
     }
 }
 
-impl<K: Hash + Drop, V: Clone, C: CacheTypes<K, V>, W: Wait>
-    Participant<Cache<K, V, C, W>, Answer<K, V, C::Error>> for FirstInitializer<K> {
+impl<K: Hash + Drop, V: Clone, C: CacheTypes<K, V>, W: Wait> Participant<
+    Cache<K, V, C, W>,
+    Answer<K, V, C::Error>,
+> for FirstInitializer<K> {
     ghost use Rattle.std.specs.Prelude.{◌≡◌, ⊤, IsSome};
     ghost use Rattle.moka_sync.specs.Waiting.{CollectReturns, FirstReturns};
 
