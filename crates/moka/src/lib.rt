@@ -45,6 +45,12 @@ pub mod sync {
     pub use moka_sync::entry_selector::{OwnedKeyEntrySelector, RefKeyEntrySelector};
     pub use moka_sync::segment::SegmentedCache;
 
+    /// The cache of one segment that threads share.
+    pub mod cache {
+        pub use moka_sync::cache::Cache;
+        pub use moka_sync::concurrent_cache_ext::ConcurrentCacheExt;
+    }
+
     /// Selectors: a key, for exactly one call. Those of shared caches, and those of owned ones.
     pub mod entry_selector {
         pub use moka_segmented::entry_selector::SegmentedEntrySelector;
@@ -97,6 +103,7 @@ pub mod state {
     #[doc(hidden)]
     pub use moka_state::packed::PackedEntryInfo;
     pub use moka_state::predicate_error::PredicateError;
+    pub use moka_state::predicate_id::PredicateId;
     #[doc(hidden)]
     pub use moka_state::rows::{Access, Order, Previous, Row, RowRef};
     pub use moka_state::rows::{EntryInfo, OwnLife, RowId, RowStore};

@@ -1,5 +1,5 @@
 -- What the waiting loop returns to callers of a cache.
-use Rattle.std.proofs.Common.{◌≡◌, ℕ, Option, ap, ◌∙◌, subst, sym, refl}
+use Rattle.std.proofs.Common.{◌≡◌, ℕ, Option, Some, ap, ◌∙◌, subst, sym, refl}
 use Rattle.std.specs.Prelude.{Result, Ok, Err, IfOk}
 use Rattle.std.specs.Arc.{arc_value}
 use Rattle.moka_model.specs.declared.turns.Kind.{Kind}
@@ -15,7 +15,7 @@ use Rattle.moka_turns.specs.declared.handles.Turn.{Turn}
 use Rattle.moka_turns.specs.declared.handles.Ticket.{Ticket}
 use Rattle.moka_state.specs.declared.answers.Answer.{Answer}
 use Rattle.moka_state.specs.declared.answers.ShownTurn.{ShownTurn}
-use Rattle.moka_sync.specs.Waiting.{AsksSame, InitializerData, ComputerData, IsTurnFor, IsTicketFor, IsSameTicket, IsGivenTo, IsShownTurn, BeginReturns, CollectReturns, BeginComputeReturns, CollectComputeReturns}
+use Rattle.moka_sync.specs.Waiting.{AsksSame, InitializerData, ComputerData, IsTurnFor, IsTicketFor, IsSameTicket, IsGivenTo, IsShownTurn, BeginReturns, FirstData, FirstReturns, CollectReturns, BeginComputeReturns, CollectComputeReturns}
 
 -- a ticket that comes back is for the same kind and key
 same-ticket : {K : Type 0} (kind : Kind) (key : K) (ticket same : Ticket K) → IsTicketFor kind key ticket → IsSameTicket ticket same → IsTicketFor kind key same
@@ -53,6 +53,26 @@ module _ {K V E P : Type 0} (keeps : K → V → Type 0) where
   pub if-asked : {F : Type 0} (most : Option ℕ) (caller then : InitializerData K P) (result : Result (Joined (Answer K V E) (Turn K)) F) → IfOk result (λ waited. Ends BeginsAs CollectsAs most caller waited then) → IfOk result (HoldsOfJoined (IsGivenTo keeps caller.kind caller.key) (IsTurnFor caller.kind caller.key))
   if-asked most caller then (Ok waited) ends = asked most caller waited then ends
   if-asked most caller then (Err cause) ends = tt
+
+module _ {K V E : Type 0} (keeps : K → V → Type 0) where
+  abbrev pub BeginsFirst : FirstData K → Begun (Answer K V E) (Turn K) (Ticket K) → FirstData K → Type 0
+  BeginsFirst old reply new = (new ≡ old) × FirstReturns keeps old reply
+
+  abbrev pub CollectsFirst : FirstData K → Ticket K → Collected (Answer K V E) (Ticket K) → FirstData K → Type 0
+  CollectsFirst old ticket reply new = (new ≡ old) × CollectReturns keeps ticket reply
+
+  -- so does one whose key was its own
+  pub first-asked : (most : Option ℕ) (kind : Kind) (key : K) (waited : Joined (Answer K V E) (Turn K)) (then : FirstData K) → Ends BeginsFirst CollectsFirst most (record { key = Some key; kind = kind }) waited then → HoldsOfJoined (IsGivenTo keeps kind key) (IsTurnFor kind key) waited
+  first-asked most kind key waited then ends =
+      let caller : FirstData K = record { key = Some key; kind = kind } in
+      (ends-hold BeginsFirst CollectsFirst (λ it. it ≡ caller) (IsGivenTo keeps kind key) (IsTurnFor kind key) (IsTicketFor kind key)
+      (λ old reply new is begun. (begun.0 ∙ is, subst (λ (it : FirstData K). FirstReturns keeps it reply) is begun.1))
+      (λ old ticket reply new is of collected. (collected.0 ∙ is, given-for keeps kind key ticket reply of collected.1))
+      most caller waited then refl ends).1
+
+  pub if-first-asked : {F : Type 0} (most : Option ℕ) (kind : Kind) (key : K) (then : FirstData K) (result : Result (Joined (Answer K V E) (Turn K)) F) → IfOk result (λ waited. Ends BeginsFirst CollectsFirst most (record { key = Some key; kind = kind }) waited then) → IfOk result (HoldsOfJoined (IsGivenTo keeps kind key) (IsTurnFor kind key))
+  if-first-asked most kind key then (Ok waited) ends = first-asked most kind key waited then ends
+  if-first-asked most kind key then (Err cause) ends = tt
 
 module _ {K V : Type 0} (keeps : K → V → Type 0) where
   abbrev pub BeginsComputing : ComputerData K → Begun (Unit {0}) (ShownTurn K V) (Ticket K) → ComputerData K → Type 0

@@ -1,6 +1,8 @@
 -- What callers that wait for each other's turns ask for, and what they get.
-use Rattle.std.specs.Prelude.{◌≡◌, IfSome, Option}
+use Rattle.std.specs.Prelude.{◌≡◌, IfSome, Option, Some, None, Result, Ok, Err}
 use Rattle.std.specs.Arc.{arc_value}
+use Rattle.std.specs.declared.sync.Arc.{Arc}
+use Rattle.std.specs.declared.alloc.Global.{Global}
 use Rattle.moka_model.specs.declared.turns.Kind.{Kind}
 use Rattle.moka_model.specs.declared.turns.Kind.TheVariants.{Compute}
 use Rattle.moka_single_flight.specs.declared.replies.Begun.{Begun}
@@ -24,6 +26,20 @@ pub record InitializerData (K P : Type 0) : Type 0 where
 -- A caller asks for the same key, as an initializer of the same kind. Its closure may have been called.
 abbrev pub AsksSame : {K P : Type 0} → InitializerData K P → InitializerData K P → Type 0
 AsksSame old new = (new.key ≡ old.key) × (new.kind ≡ old.kind)
+
+-- A key that is shared, or still its caller's own.
+abbrev pub asked_key : {K : Type 0} → Result (Arc K Global) K → K
+asked_key (Ok shared) = arc_value shared
+asked_key (Err own) = own
+
+abbrev pub asked : {K : Type 0} → Option (Result (Arc K Global) K) → Option K
+asked None = None
+asked (Some key) = Some (asked_key key)
+
+-- A caller that asks for a key, which may still be its own, as an initializer of some kind.
+pub record FirstData (K : Type 0) : Type 0 where
+  pub key : Option K
+  pub kind : Kind
 
 -- A caller that asks for a key to compute its value.
 pub record ComputerData (K : Type 0) : Type 0 where
@@ -49,6 +65,10 @@ module _ {K V E : Type 0} (keeps : K → V → Type 0) where
   -- What a begin returns to an initializer: an answer, a turn or a ticket, each for its kind and key.
   abbrev pub BeginReturns : {P : Type 0} → InitializerData K P → Begun (Answer K V E) (Turn K) (Ticket K) → Type 0
   BeginReturns it reply = HoldsOfBegun (IsGivenTo it.kind it.key) (IsTurnFor it.kind it.key) (IsTicketFor it.kind it.key) reply
+
+  -- The same for a caller whose key may still be its own.
+  abbrev pub FirstReturns : FirstData K → Begun (Answer K V E) (Turn K) (Ticket K) → Type 0
+  FirstReturns it reply = IfSome it.key (λ key. HoldsOfBegun (IsGivenTo it.kind key) (IsTurnFor it.kind key) (IsTicketFor it.kind key) reply)
 
   -- What a collect returns: an answer for the kind and the key of the ticket, or the ticket itself.
   abbrev pub CollectReturns : Ticket K → Collected (Answer K V E) (Ticket K) → Type 0

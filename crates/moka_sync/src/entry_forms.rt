@@ -11,7 +11,6 @@ use moka_model::entry::Entry;
 use moka_model::turns::{Kind, Outcome};
 use moka_policy::policy::{CacheTypes, Refused};
 use moka_single_flight::replies::Joined;
-use moka_single_flight::wait::MAX_RETRIES;
 use moka_state::answers::{Answer, FinishRefused, Finished};
 use moka_state::handles::Turn;
 use moka_state::loader::{LoaderResult, share_error};
@@ -92,7 +91,7 @@ impl<K: Hash + Drop, V: Clone, C: CacheTypes<K, V>, W: Wait> Cache<K, V, C, W> {
             → OutcomeKeeps (C.keeps (arc_value key)) (G.outcome given) }
         ensures { IfOk result (λ loaded. GivenKeeps C.keeps (arc_value key) (G.answer loaded)) }
     {
-        match self.ask(key, G::kind(), replace_if, MAX_RETRIES)? {
+        match self.ask(key, G::kind(), replace_if)? {
             Joined::Value(answer) => Ok(G::loaded(answer)),
             Joined::Turn(turn) => self.end_with(turn, init()),
             Joined::TooMany => Err(Refused::WaitsAbandoned),

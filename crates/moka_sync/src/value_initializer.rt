@@ -9,7 +9,7 @@ ghost use Rattle.moka_state.specs.Begin.{FoundKeeps, FoundKeepsFor, IsNamed, IsS
 ghost use Rattle.moka_guarded.specs.Kept.{AnswerFits, GivenKeeps};
 ghost use Rattle.moka_sync.specs.ReplaceIf.{TakesKeptAgain};
 ghost use Rattle.moka_single_flight.specs.Holds.{HoldsOfJoined};
-ghost use Rattle.moka_sync.specs.Waiting.{IsGivenTo, IsShownTurn, IsTurnFor};
+ghost use Rattle.moka_sync.specs.Waiting.{IsGivenTo, IsShownTurn, IsTurnFor, asked_key};
 
 use crate::cache::{Cache, unlock};
 use crate::entry_forms::none_like;
@@ -35,6 +35,14 @@ struct Initializer<K, V, P: FnMut(&V) -> bool> {
     values: PhantomData<V>,
 }
 
+// A caller with an initializer, whose key is its own until its first begin finds no live value and
+// shares it.
+#[derive(Drop)]
+struct FirstInitializer<K> {
+    key: Option<Result<Arc<K>, K>>,
+    kind: Kind,
+}
+
 // A caller with a compute.
 #[derive(Drop)]
 struct Computer<K> {
@@ -54,6 +62,21 @@ impl<K, V, P: FnMut(&V) -> bool> Model for Initializer<K, V, P> {
       key = arc_value it.key;
       kind = it.kind;
       replace_if = it.replace_if;
+    } };
+
+    ghost invariant = { λ it. it.kind ≢ Compute };
+}
+
+impl<K> Model for FirstInitializer<K> {
+    ghost use Rattle.std.specs.Prelude.{◌≢◌};
+    ghost use Rattle.moka_model.specs.declared.turns.Kind.TheVariants.{Compute};
+    ghost use Rattle.moka_sync.specs.Waiting.{FirstData, asked};
+
+    ghost Value = { FirstData K };
+
+    ghost view = { λ it. record {
+      key = asked it.key;
+      kind = it.kind;
     } };
 
     ghost invariant = { λ it. it.kind ≢ Compute };
@@ -119,6 +142,67 @@ impl<
         at: &Cache<K, V, C, W>,
     ) -> Result<Begun<Answer<K, V, C::Error>, Turn<K>, Ticket<K>>, Refused> {
         match at.begin_reusing(&self.key, self.kind, &mut self.replace_if) {
+            Ok(Begun::Found(entry)) => Ok(Begun::Found(Answer::Entry(entry))),
+            Ok(Begun::Run(turn)) => Ok(Begun::Run(turn)),
+            Ok(Begun::Wait(ticket)) => Ok(Begun::Wait(ticket)),
+            Err(cause) => Err(cause),
+        }
+    }
+
+    fn collect(
+        &mut self,
+        at: &Cache<K, V, C, W>,
+        ticket: Ticket<K>,
+    ) -> Result<replies::Collected<Answer<K, V, C::Error>, Ticket<K>>, Refused> {
+        match at.collect_or_sleep(ticket) {
+            Ok(Some(answer)) => Ok(replies::Collected::Ready(answer)),
+            Ok(None) => Ok(replies::Collected::Retry),
+            Err(cause) => Err(cause),
+        }
+    }
+}
+
+impl<K: Hash + Drop, V: Clone, C: CacheTypes<K, V>, W: Wait> Participant<
+    Cache<K, V, C, W>,
+    Answer<K, V, C::Error>,
+> for FirstInitializer<K> {
+    ghost use Rattle.std.specs.Prelude.{◌≡◌, ⊤, IsSome};
+    ghost use Rattle.moka_sync.specs.Waiting.{CollectReturns, FirstReturns};
+
+    type Turn = Turn<K>;
+
+    type Ticket = Ticket<K>;
+
+    type Refused = Refused;
+
+    ghost ready = { λ it. IsSome it.key };
+
+    ghost begun = { λ _ old reply new. (new ≡ old) × FirstReturns C.keeps old reply };
+
+    ghost collected = { λ _ old ticket reply new. (new ≡ old)
+        × CollectReturns C.keeps ticket reply };
+
+    ghost begin_refused = { λ _ _ _ _. ⊤ };
+
+    ghost collect_refused = { λ _ _ _ _ _. ⊤ };
+
+    fn begin(
+        &mut self,
+        at: &Cache<K, V, C, W>,
+    ) -> Result<Begun<Answer<K, V, C::Error>, Turn<K>, Ticket<K>>, Refused> {
+        let Some(asked) = self.key.take() else {
+            unreachable!()
+        };
+        let (asked, begun) = match asked {
+            Ok(key) => {
+                let mut none = none_like(|_: &V| false);
+                let begun = at.begin_reusing(&key, self.kind, &mut none);
+                (Ok(key), begun)
+            }
+            Err(key) => at.begin_own(key, self.kind),
+        };
+        self.key = Some(asked);
+        match begun {
             Ok(Begun::Found(entry)) => Ok(Begun::Found(Answer::Entry(entry))),
             Ok(Begun::Run(turn)) => Ok(Begun::Run(turn)),
             Ok(Begun::Wait(ticket)) => Ok(Begun::Wait(ticket)),
@@ -239,14 +323,13 @@ impl<K: Hash + Drop, V: Clone, C: CacheTypes<K, V>, W: Wait> Cache<K, V, C, W> {
     }
 
     // Returns the live entry or the outcome of another caller's initializer; else the turn, once
-    // nobody else has it, or neither after `max_retries` abandoned turns. Fails as a begin or a
+    // nobody else has it, or neither after `MAX_RETRIES` abandoned turns. Fails as a begin or a
     // collect does.
     pub(crate) fn ask<P: FnMut(&V) -> bool + Drop>(
         &self,
         key: Arc<K>,
         kind: Kind,
         replace_if: Option<P>,
-        max_retries: u64,
     ) -> Result<Joined<Answer<K, V, C::Error>, Turn<K>>, Refused>
         requires initializer { kind ≢ Kind.Compute }
         requires shows { IfSome replace_if
@@ -255,11 +338,10 @@ impl<K: Hash + Drop, V: Clone, C: CacheTypes<K, V>, W: Wait> Cache<K, V, C, W> {
             (IsTurnFor kind (arc_value key))) }
     {
         let mut caller = Initializer::new(key, kind, replace_if);
-        wait_for(&self.inner.waits, &mut caller, self, Some(max_retries))
+        wait_for(&self.inner.waits, &mut caller, self, Some(MAX_RETRIES))
     }
 
-    // Does what `ask` does, for a key that is not shared yet. Looks it up, and if it has no live value
-    // shares it and begins, all under one lock, at one moment and with one hash of the key.
+    // Does what `ask` does, for a key that is not shared yet.
     pub(crate) fn ask_first(
         &self,
         key: K,
@@ -268,30 +350,48 @@ impl<K: Hash + Drop, V: Clone, C: CacheTypes<K, V>, W: Wait> Cache<K, V, C, W> {
         requires initializer { kind ≢ Kind.Compute }
         ensures { IfOk result (HoldsOfJoined (IsGivenTo C.keeps kind key) (IsTurnFor kind key)) }
     {
+        let mut caller = FirstInitializer {
+            key: Some(Err(key)),
+            kind,
+        };
+        wait_for(&self.inner.waits, &mut caller, self, Some(MAX_RETRIES))
+    }
+
+    // Looks up a key, and if it has no live value shares it and begins, all under one lock, at one
+    // moment and with one hash of the key. Returns the key too, shared if it has been.
+    fn begin_own(
+        &self,
+        key: K,
+        kind: Kind,
+    ) -> (
+        Result<Arc<K>, K>,
+        Result<Begun<Entry<K, V>, Turn<K>, Ticket<K>>, Refused>,
+    )
+        requires initializer { kind ≢ Kind.Compute }
+        ensures key { asked_key result.0 ≡ key }
+        ensures named { IfOk result.1 (IsNamed kind key) }
+        ensures kept { IfOk result.1 (FoundKeeps C.keeps) }
+        ensures kept_for { IfOk result.1 (FoundKeepsFor C.keeps key) }
+    {
         let mut locked = self.lock();
         let state = &mut *locked;
         let now = state.moment();
         let hash = state.hash(&key);
-        let none = none_like(|_: &V| false);
-        let found = state.find_acceptable_with_hash(&key, hash, none, now)?;
-        if let Some(entry) = found {
-            return Ok(Joined::Value(Answer::Entry(entry)));
+        match state.find_acceptable_with_hash(&key, hash, none_like(|_: &V| false), now) {
+            Ok(None) => {}
+            Ok(Some(entry)) => return (Err(key), Ok(Begun::Found(entry))),
+            Err(cause) => return (Err(key), Err(cause)),
         }
-        let key = self.share(key)?;
+        let key = match Arc::new(self.inner.alloc, key) {
+            Ok(key) => key,
+            Err(failed) => return (Err(failed.value), Err(Refused::OutOfMemory)),
+        };
         let Ok(shared) = key.clone() else {
-            return Err(Refused::OutOfMemory);
+            return (Ok(key), Err(Refused::OutOfMemory));
         };
         let begun = state.begin_missed(shared, hash, kind, now);
         drop(unlock(locked));
-        let ticket = match begun? {
-            Begun::Found(entry) => return Ok(Joined::Value(Answer::Entry(entry))),
-            Begun::Run(turn) => return Ok(Joined::Turn(turn)),
-            Begun::Wait(ticket) => ticket,
-        };
-        match self.collect_or_sleep(ticket)? {
-            Some(answer) => Ok(Joined::Value(answer)),
-            None => self.ask(key, kind, none_like(|_: &V| false), MAX_RETRIES - 1),
-        }
+        (Ok(key), begun)
     }
 
     // Returns the turn of a compute, once nobody else has it. Fails as a begin or a collect does.

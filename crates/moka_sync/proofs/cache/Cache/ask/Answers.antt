@@ -8,4 +8,4 @@ use Rattle.moka_sync.proofs.cache.Cache.ask.Goals as goal
 pub returns : goal.returns
 returns g c =
     subst (λ (it : InitializerData _ _). IfOk c.wait_for.result (HoldsOfJoined (IsGivenTo g.C.CacheTypes.keeps it.kind it.key) (IsTurnFor it.kind it.key))) c.new-caller.ensures
-    (if-asked g.C.CacheTypes.keeps (Some c.args.max_retries) c.new-caller.result c.wait_for.new.caller c.wait_for.result c.wait_for.ensures.done)
+    (if-asked g.C.CacheTypes.keeps (Some 200) c.new-caller.result c.wait_for.new.caller c.wait_for.result c.wait_for.ensures.done)

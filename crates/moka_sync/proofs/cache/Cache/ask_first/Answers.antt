@@ -1,7 +1,6 @@
+use Rattle.std.proofs.Common.{Some}
+use Rattle.moka_sync.proofs.Waiting.{if-first-asked}
 use Rattle.moka_sync.proofs.cache.Cache.ask_first.Goals as goal
 
--- the lookup has found nothing, and changed nothing
-pub begin_missed-begun-requires-clause-missed : goal.begin_missed-begun-requires-clause-missed
-begin_missed-begun-requires-clause-missed g c =
-    let looks = rw c.in_default.is at c.in_ok-found.ensures.step in
-    (looks.0, λ settings steps stands. rw (c.in-Ok.ensures.cases, c.in_ok-key.ensures) ((looks.1.reply settings steps (rw looks.1.stands at stands)).1))
+pub returns : goal.returns
+returns g c = if-first-asked g.C.CacheTypes.keeps (Some 200) c.args.kind c.args.key c.wait_for.new.caller c.wait_for.result c.wait_for.ensures.done
