@@ -41,14 +41,19 @@ pub(crate) struct Act<'a> {
     pub three: u64,
 }
 
-/// The call that counts the entries of the other passes.
-pub(crate) const OTHERS: Act<'static> = Act {
-    name: "others",
-    kind: Kind::With,
-    one: 0,
-    two: 0,
-    three: 0,
-};
+impl<'a> Act<'a> {
+    /// Creates a call of two numbers.
+    pub(crate) fn new(name: &'a str, one: u64, two: u64) -> Self {
+        let (kind, three) = (Kind::With, 0);
+        Act {
+            name,
+            kind,
+            one,
+            two,
+            three,
+        }
+    }
+}
 
 /// Returns the number that a word says, if it says one.
 pub(crate) fn number(word: Option<&str>) -> Option<u64> {

@@ -1,6 +1,6 @@
 //! A thread that plays rows on a recorded cache.
 
-use crate::act::{Act, OTHERS, Said, read};
+use crate::act::{Act, Said, read};
 use crate::calls::Called;
 use crate::marks::{come, mark, nap, so_far};
 use crate::scene::{Stage, text_of};
@@ -146,13 +146,7 @@ impl<'a, R: Clock + Abort + Copy> Player<'a, R> {
             return Said::Absent;
         };
         let name = if is_ticket { "leave" } else { "abandon" };
-        let act = Act {
-            name,
-            one,
-            two,
-            ..OTHERS
-        };
-        let said = cache.call(pass, act, self.now);
+        let said = cache.call(pass, Act::new(name, one, two), self.now);
         assert!(self.on.rt; said == Said::Done, "what was held says {said:?}");
         said
     }
@@ -160,14 +154,8 @@ impl<'a, R: Clock + Abort + Copy> Player<'a, R> {
     /// Writes 64 keys from a number on, and reads each. Returns whether it found each.
     fn write_all<X: Called<P>, P>(&mut self, cache: &X, pass: &mut P, from: u64) -> bool {
         for key in from..from.saturating_add(64) {
-            let act = Act {
-                name: "insert",
-                one: key,
-                two: key,
-                ..OTHERS
-            };
-            let written = cache.call(pass, act, self.now);
-            let read = cache.call(pass, Act { name: "get", ..act }, self.now);
+            let written = cache.call(pass, Act::new("insert", key, key), self.now);
+            let read = cache.call(pass, Act::new("get", key, 0), self.now);
             if written != Said::Done || read != Said::Found(key) {
                 return false;
             }
@@ -208,7 +196,7 @@ impl<'a, R: Clock + Abort + Copy> Player<'a, R> {
         let marks = &*self.on.marks;
         for _ in 0..20_000 {
             nap(&self.on.rt, 1);
-            let Said::Counted(others) = cache.call(pass, OTHERS, 0) else {
+            let Said::Counted(others) = cache.call(pass, Act::new("others", 0, 0), 0) else {
                 return false;
             };
             marks.told.store(others, Ordering::SeqCst);

@@ -256,9 +256,8 @@ pub(crate) fn text_of<T: Debug>(alloc: Global, it: &T) -> Result<String, AllocEr
     }
 }
 
-/// Checks that each receipt stands at its place, and the numbers of the passes of all entries but
-/// those that count; an empty order says none. Gives a twin the steps of the history, and checks that
-/// it gives the same replies.
+/// Checks that each receipt stands at its place, and the numbers of the passes. Gives a twin the steps
+/// of the history, and checks that it gives the same replies.
 fn replay<R: Abort + Copy>(
     rt: R,
     alloc: Global,
@@ -271,17 +270,33 @@ fn replay<R: Abort + Copy>(
     if lines.len() > LONG {
         return;
     }
-    let mut numbers = order.split_whitespace();
-    for (pass, step, reply) in lines {
-        if !order.is_empty() && !matches!(step, Step::EntryCount) {
-            assert_eq!(rt; number(numbers.next()), Some(pass));
-        }
+    has_order(rt, order, lines.as_slice());
+    for (_, step, reply) in lines {
         let wanted = make_step(twin, step);
-        assert_eq!(rt; text_of(alloc, &reply).ok(), text_of(alloc, &wanted).ok());
+        alike(
+            rt,
+            text_of(alloc, &reply).ok(),
+            text_of(alloc, &wanted).ok(),
+        );
+    }
+    alike(rt, Some(state.entry_count()), Some(twin.entry_count()));
+    alike(rt, Some(state.notice_count()), Some(twin.notice_count()));
+}
+
+/// Checks that two are alike. It alone has the assertion, which would drop all that its caller owns.
+fn alike<R: Abort + Copy, T: Debug + PartialEq + Drop>(rt: R, left: Option<T>, right: Option<T>) {
+    assert_eq!(rt; left, right);
+}
+
+/// Checks the numbers of the passes of all entries but those that count. An empty order says none.
+fn has_order<R: Abort + Copy>(rt: R, order: &str, lines: &[Line<PlainRecorded>]) {
+    let mut numbers = order.split_whitespace();
+    for (pass, step, _) in lines {
+        if !order.is_empty() && !matches!(step, Step::EntryCount) {
+            assert_eq!(rt; number(numbers.next()), Some(*pass));
+        }
     }
     assert_eq!(rt; numbers.next(), None);
-    assert_eq!(rt; state.entry_count(), twin.entry_count());
-    assert_eq!(rt; state.notice_count(), twin.notice_count());
 }
 
 /// Checks that each receipt is at its place. One entry at most has none: that of the call behind
