@@ -218,7 +218,7 @@ where
         return;
     }
     let threads = parts.len().max(1);
-    thread::for_each_mut(rt, parts, threads, &|_, part| job.work(shared, part));
+    thread::for_each_mut(rt, parts, threads, &move |_, part| job.work(shared, part));
 }
 
 /// How many entries of a history are compared word by word.
