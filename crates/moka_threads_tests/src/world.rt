@@ -145,10 +145,7 @@ pub(crate) fn play<W: Whole>(
     mode: Mode,
     (scene, wanted): (Scene, Wanted),
 ) -> Result<(), Fail> {
-    let mut given = [Ok(0); 202];
-    let Some(given) = given.get_mut(..scene.threads()) else {
-        return Err(Fail::from("too many threads"));
-    };
+    let mut given = vec![in alloc; Ok(0); scene.threads()]?;
     let marks = Arc::new(alloc, Marks::default())?;
     let cache = build(rt, alloc, (locks, mode), &marks)?;
     let world = World {
@@ -161,8 +158,8 @@ pub(crate) fn play<W: Whole>(
         rt,
     };
     let prepared = world.prepares();
-    act_all(&rt, given, &world);
-    world.checks(prepared, given, wanted);
+    act_all(&rt, given.as_mut_slice(), &world);
+    world.checks(prepared, given.as_slice(), wanted);
     Ok(())
 }
 
