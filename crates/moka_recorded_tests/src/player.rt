@@ -96,17 +96,17 @@ impl<'a, R: Clock + Abort + Copy> Player<'a, R> {
     }
 
     fn act<X: Called<P>, P>(&mut self, cache: &X, pass: &mut P, act: Act<'_>) -> Said {
-        let (rt, marks) = (&self.on.rt, &*self.on.marks);
+        let on = self.on;
         match act.name {
             "end_held" => return self.end_held(cache, pass),
             "write_all" => return Said::Is(self.write_all(cache, pass, act.one)),
             "random" => return Said::Is(self.random(cache, pass, act.one)),
             "sees" | "watch" => return Said::Is(self.poll(cache, pass, act)),
-            "asked" => return Said::Is(come(rt, &marks.asks, act.one)),
-            "join" => return Said::Is(come(rt, &marks.done, act.one)),
+            "asked" => return Said::Is(come(&on.rt, &on.marks.asks, act.one)),
+            "join" => return Said::Is(come(&on.rt, &on.marks.done, act.one)),
             "load_scarce" => return self.again(cache, pass, act, 1),
-            "tell" => mark(&marks.told),
-            "nap" => nap(rt, act.one),
+            "tell" => mark(&on.marks.told),
+            "nap" => nap(&on.rt, act.one),
             "at" => self.now = act.one.saturating_mul(1_000_000_000),
             _ => return self.again(cache, pass, act, 20),
         }
@@ -152,7 +152,7 @@ impl<'a, R: Clock + Abort + Copy> Player<'a, R> {
     }
 
     /// Writes 64 keys from a number on, and reads each. Returns whether it found each.
-    fn write_all<X: Called<P>, P>(&mut self, cache: &X, pass: &mut P, from: u64) -> bool {
+    fn write_all<X: Called<P>, P>(&self, cache: &X, pass: &mut P, from: u64) -> bool {
         for key in from..from.saturating_add(64) {
             let written = cache.call(pass, Act::new("insert", key, key), self.now);
             let read = cache.call(pass, Act::new("get", key, 0), self.now);
@@ -165,7 +165,7 @@ impl<'a, R: Clock + Abort + Copy> Player<'a, R> {
 
     /// Makes 400 calls that are drawn. Returns whether none was refused memory, and each load given
     /// its value.
-    fn random<X: Called<P>, P>(&mut self, cache: &X, pass: &mut P, seed: u64) -> bool {
+    fn random<X: Called<P>, P>(&self, cache: &X, pass: &mut P, seed: u64) -> bool {
         let mut random = SplitMix64::seed_from_u64(seed);
         let mut turns = Vec::new(self.on.alloc);
         for made in 20..420_u64 {
@@ -192,17 +192,17 @@ impl<'a, R: Clock + Abort + Copy> Player<'a, R> {
     /// A caller that waits for a turn makes two: its begin, and the collect that comes too early. It
     /// releases the lock behind that collect only by going to sleep. So it sleeps once another call
     /// finds both.
-    fn poll<X: Called<P>, P>(&mut self, cache: &X, pass: &mut P, act: Act<'_>) -> bool {
-        let marks = &*self.on.marks;
+    fn poll<X: Called<P>, P>(&self, cache: &X, pass: &mut P, act: Act<'_>) -> bool {
+        let on = self.on;
         for _ in 0..20_000 {
-            nap(&self.on.rt, 1);
+            nap(&on.rt, 1);
             let Said::Counted(others) = cache.call(pass, Act::new("others", 0, 0), 0) else {
                 return false;
             };
-            marks.told.store(others, Ordering::SeqCst);
+            on.marks.told.store(others, Ordering::SeqCst);
             let count = match act.name {
                 "sees" => others,
-                _ => so_far(&marks.done),
+                _ => so_far(&on.marks.done),
             };
             if count >= act.one {
                 return true;
