@@ -7,19 +7,22 @@
 //! | `finish N K V`, `put N K V`, `abandon N K`, `collect N K`, `leave N K` | ends turn N of key K, or spends its ticket |
 //! | `load K V` | `get_with`, by a closure that returns V |
 //! | `load_told K V` | the same, once `tell` came |
-//! | `load_scarce K V N` | the same in a round of N loaders; the first N - 1 closures return what has no clone |
-//! | `load_again K V` | the same, again where memory was refused, and behind what was held then |
+//! | `load_scarce K V N` | the same in a round of N + 1 loaders; the first N closures return what has no clone |
 //! | `end_held` | makes the step that a failed load handed back, if there is one |
 //! | `write_all` | writes and reads 64 keys |
+//! | `random S` | makes 400 random calls, drawn from the seed S |
 //! | `at S` | sets the moment of the calls behind it, in seconds |
-//! | `sees N`, `still N` | waits until the others have N entries; looks whether they still have N |
+//! | `others`, `sees N` | counts the entries of the others; waits until they have N |
+//! | `nap N` | sleeps N milliseconds, so that the others could go on |
 //! | `asked N`, `join N`, `tell` | waits until N closures began, or N threads are done; lets closures return |
 //! | `watch N` | tells how many entries the others have, until N threads are done |
 //!
-//! A row without a result may say anything.
+//! A row without a result may say anything. A call that is refused memory is made again, but not
+//! `load_scarce`.
 ghost use Rattle.std.specs.Prelude.{ℕ, IfOk};
 ghost use Rattle.moka_state.specs.Step.{StepKeeps};
 
+use crate::calls::ScarceStep;
 use crate::marks::{Marks, Scarce};
 use moka_model::turns::{Kind, Op, Outcome};
 use moka_policy::policy::{CacheTypes, Refused};
@@ -28,34 +31,52 @@ use moka_state::turn_name::TurnName;
 use std::alloc::{AllocError, Global};
 use std::sync::Arc;
 
-/// A call: its name, and three numbers, 0 for those that are missing.
+/// A call: its name, the kind of its turn, and three numbers, 0 for those that are missing.
 #[derive(Clone, Copy)]
 pub(crate) struct Act<'a> {
     pub name: &'a str,
+    pub kind: Kind,
     pub one: u64,
     pub two: u64,
     pub three: u64,
 }
 
-fn number(word: Option<&str>) -> u64 {
-    match word {
-        Some(word) => word.parse::<u64>().unwrap_or(0),
-        None => 0,
+impl<'a> Act<'a> {
+    /// Creates a call of two numbers.
+    pub(crate) fn new(name: &'a str, one: u64, two: u64) -> Self {
+        let (kind, three) = (Kind::With, 0);
+        Act {
+            name,
+            kind,
+            one,
+            two,
+            three,
+        }
     }
 }
 
-/// Reads a call.
+/// Returns the number that a word says, if it says one.
+pub(crate) fn number(word: Option<&str>) -> Option<u64> {
+    word?.parse::<u64>().ok()
+}
+
+/// Reads a call, behind the number of its pass if there is one.
 pub(crate) fn read(row: &str) -> Act<'_> {
     let mut words = row.split_whitespace();
+    if number(row.split_whitespace().next()).is_some() {
+        words.next();
+    }
     let name = words.next().unwrap_or("");
-    let one = number(words.next());
-    let two = number(words.next());
-    let three = number(words.next());
+    let kind = match name {
+        "put" => Kind::Compute,
+        _ => Kind::With,
+    };
     Act {
         name,
-        one,
-        two,
-        three,
+        kind,
+        one: number(words.next()).unwrap_or(0),
+        two: number(words.next()).unwrap_or(0),
+        three: number(words.next()).unwrap_or(0),
     }
 }
 
@@ -72,13 +93,12 @@ pub(crate) enum Said {
     Run(u64),
     Wait(u64),
     NotYet,
-    Abandoned,
     Refused(Refused),
-    /// A load returned this value, or failed and held nothing, its turn, or its ticket.
+    /// A load returned this value; failed and held nothing; or held its turn, or its ticket if so, of
+    /// this number and key.
     Given(u64),
     Failed(Refused),
-    HoldsTurn(Refused),
-    HoldsTicket(Refused),
+    Holds(Refused, bool, u64, u64),
     Other,
 }
 
@@ -94,14 +114,10 @@ pub(crate) fn said_of<C: CacheTypes<u64, Scarce>>(reply: &Reply<u64, Scarce, C>)
         Reply::Run(name, _) => Said::Run(name.number),
         Reply::Wait(name) => Said::Wait(name.number),
         Reply::NotYet => Said::NotYet,
-        Reply::Abandoned => Said::Abandoned,
         Reply::Refused(cause) => Said::Refused(*cause),
         _ => Said::Other,
     }
 }
-
-/// A step of a cache under test.
-pub(crate) type ScarceStep<C> = Step<u64, Scarce, C>;
 
 fn scarce(marks: &Arc<Marks>, number: u64) -> Result<Scarce, AllocError> {
     let marks = marks.clone()?;
@@ -109,7 +125,7 @@ fn scarce(marks: &Arc<Marks>, number: u64) -> Result<Scarce, AllocError> {
 }
 
 /// Returns the step of a call that ends a turn or spends a ticket; of another one that which counts
-/// the entries.
+/// the entries. What an operation does depends on its value.
 fn turn_step<C: CacheTypes<u64, Scarce>>(
     alloc: Global,
     marks: &Arc<Marks>,
@@ -119,27 +135,19 @@ fn turn_step<C: CacheTypes<u64, Scarce>>(
     requires { (k : ℕ) (v : _) → C.keeps k v }
     ensures { IfOk result (StepKeeps C.keeps C.Predicate.tests C.test) }
 {
-    let name = TurnName {
-        number: act.one,
-        kind: if act.name == "put" {
-            Kind::Compute
-        } else {
-            Kind::With
-        },
-        key: Arc::new(alloc, act.two)?,
-    };
+    let key = Arc::new(alloc, act.two)?;
+    let (number, kind) = (act.one, act.kind);
+    let name = TurnName { number, kind, key };
     let value = scarce(marks, act.three)?;
+    let outcome = match (act.name == "put", kind, act.three % 4) {
+        (true, _, 0) => Outcome::Op(Op::Nop),
+        (true, _, 1) => Outcome::Op(Op::Remove),
+        (true, _, _) => Outcome::Op(Op::Put(value)),
+        (_, Kind::Optionally, 0) => Outcome::Nothing,
+        _ => Outcome::Value(value),
+    };
     Ok(match act.name {
-        "finish" => Step::Finish {
-            name,
-            outcome: Outcome::Value(value),
-            now,
-        },
-        "put" => Step::Finish {
-            name,
-            outcome: Outcome::Op(Op::Put(value)),
-            now,
-        },
+        "finish" | "put" => Step::Finish { name, outcome, now },
         "abandon" => Step::Abandon { name },
         "collect" => Step::Collect { name },
         "leave" => Step::Leave { name },
@@ -147,7 +155,8 @@ fn turn_step<C: CacheTypes<u64, Scarce>>(
     })
 }
 
-/// Returns the step of a call.
+/// Returns the step of a call. The third number of a begin says what `replace_if` returns: 0
+/// nothing, 1 yes, 2 no.
 pub(crate) fn step_of<C: CacheTypes<u64, Scarce>>(
     alloc: Global,
     marks: &Arc<Marks>,
@@ -159,6 +168,11 @@ pub(crate) fn step_of<C: CacheTypes<u64, Scarce>>(
 {
     let key = Arc::new(alloc, act.one)?;
     let value = scarce(marks, act.two)?;
+    let (kind, keep) = (act.kind, true);
+    let replace = match act.three % 3 {
+        0 => None,
+        three => Some(three == 1),
+    };
     Ok(match act.name {
         "get" => Step::Get { key, now },
         "contains_key" => Step::ContainsKey { key, now },
@@ -168,17 +182,14 @@ pub(crate) fn step_of<C: CacheTypes<u64, Scarce>>(
         "remove" => Step::Remove { key, now },
         "invalidate_all" => Step::InvalidateAll,
         "run_pending_tasks" => Step::RunPendingTasks { now },
+        "run_two_tasks" => Step::RunPendingTasksUpTo { limit: 2, now },
         "weighted_size" => Step::WeightedSize,
         "take_notice" => Step::TakeNotice,
+        "compute" => Step::BeginCompute { key, keep, now },
         "begin" => Step::Begin {
             key,
-            kind: Kind::With,
-            replace: None,
-            now,
-        },
-        "compute" => Step::BeginCompute {
-            key,
-            keep: true,
+            kind,
+            replace,
             now,
         },
         _ => return turn_step(alloc, marks, act, now),

@@ -10,7 +10,7 @@ use std::time::Duration;
 use std::{fmt, thread};
 
 /// What is counted, from 0 on, and what is told.
-#[derive(Drop)]
+#[derive(Default, Drop)]
 pub(crate) struct Marks {
     /// The initializers that began.
     pub asks: AtomicU64,
@@ -18,38 +18,18 @@ pub(crate) struct Marks {
     pub told: AtomicU64,
     /// The threads that have played their rows.
     pub done: AtomicU64,
-    /// The loads that returned a value.
+    /// The loads that returned a value; that failed and held their turn; that held their ticket; and
+    /// that held nothing.
     pub given: AtomicU64,
-    /// The loads that failed and held their turn.
     pub held: AtomicU64,
-    /// The loads that failed and held their ticket.
     pub left: AtomicU64,
-    /// The loads that failed and held nothing.
     pub failed: AtomicU64,
     /// The calls that were refused memory and made again.
     pub refusals: AtomicU64,
     /// The clones of values.
     pub clones: AtomicU64,
-    /// The number of the clone that is refused.
+    /// The number of the clone that is refused, from 1; 0 for none.
     pub refused_clone: AtomicU64,
-}
-
-impl Marks {
-    /// Creates counts of 0. The clone of this number is refused.
-    pub(crate) fn new(refused_clone: u64) -> Self {
-        Marks {
-            asks: AtomicU64::new(0),
-            told: AtomicU64::new(0),
-            done: AtomicU64::new(0),
-            given: AtomicU64::new(0),
-            held: AtomicU64::new(0),
-            left: AtomicU64::new(0),
-            failed: AtomicU64::new(0),
-            refusals: AtomicU64::new(0),
-            clones: AtomicU64::new(0),
-            refused_clone: AtomicU64::new(refused_clone),
-        }
-    }
 }
 
 /// Adds 1 to a count.
@@ -62,22 +42,19 @@ pub(crate) fn so_far(count: &AtomicU64) -> u64 {
     count.load(Ordering::SeqCst)
 }
 
-/// The limit of every wait: each turn sleeps one millisecond.
-pub(crate) const TURNS: u64 = 20_000;
-
-/// Sleeps for one turn of a wait.
-pub(crate) fn nap(rt: &impl Clock) {
-    thread::sleep(rt, Duration::from_millis(1));
+/// Sleeps so many milliseconds.
+pub(crate) fn nap(rt: &impl Clock, milliseconds: u64) {
+    thread::sleep(rt, Duration::from_millis(milliseconds));
 }
 
 /// Waits until a count has reached `wanted`, for twenty seconds or more at most. Returns whether it
 /// has.
 pub(crate) fn come(rt: &impl Clock, count: &AtomicU64, wanted: u64) -> bool {
-    for _ in 0..TURNS {
+    for _ in 0..20_000 {
         if so_far(count) >= wanted {
             return true;
         }
-        nap(rt);
+        nap(rt, 1);
     }
     false
 }
@@ -91,14 +68,16 @@ pub(crate) struct Scarce {
 
 impl Clone for Scarce {
     fn clone(&self) -> Result<Self, AllocError> {
-        let earlier = self.marks.clones.fetch_add(1, Ordering::SeqCst);
-        if self.number == 0 || earlier == so_far(&self.marks.refused_clone) {
+        let clone = self
+            .marks
+            .clones
+            .fetch_add(1, Ordering::SeqCst)
+            .wrapping_add(1);
+        if self.number == 0 || clone == so_far(&self.marks.refused_clone) {
             return Err(AllocError);
         }
-        Ok(Scarce {
-            number: self.number,
-            marks: self.marks.clone()?,
-        })
+        let (number, marks) = (self.number, self.marks.clone()?);
+        Ok(Scarce { number, marks })
     }
 }
 

@@ -1,296 +1,208 @@
 //! A thread that plays rows on a recorded cache.
-ghost use Rattle.std.specs.Prelude.{ℕ};
-ghost use Rattle.moka_state.specs.Step.{StepKeeps};
 
-use crate::act::{Act, Said, ScarceStep, read, said_of, step_of};
-use crate::caches::{Pass, Recorded};
-use crate::history::text_of;
-use crate::marks::{Marks, Scarce, TURNS, come, mark, nap, so_far};
-use moka_policy::policy::{CacheTypes, Refused};
-use moka_recorded::naming::Naming;
-use moka_recorded::refused::GetWithRefused;
-use moka_state::step::Step;
-use moka_state::turn_name::TurnName;
-use std::alloc::{AllocError, Global};
+use crate::act::{Act, Said, read};
+use crate::calls::Called;
+use crate::marks::{come, mark, nap, so_far};
+use crate::scene::{Stage, text_of};
+use moka_model::turns::Kind;
+use moka_policy::policy::Refused;
+use rand_core::{Rng, SeedableRng};
+use rand_xoshiro::SplitMix64;
 use std::process::Abort;
 use std::rt::Clock;
 use std::sync::atomic::Ordering;
-use std::sync::{Arc, Wait};
 
-/// Makes the calls of rows. A step that is refused memory is made again.
+/// Makes the calls of rows.
 #[derive(Drop)]
-pub(crate) struct Player<R> {
-    rt: R,
-    alloc: Global,
-    marks: Arc<Marks>,
+pub(crate) struct Player<'a, R> {
+    on: &'a Stage<R>,
     now: u64,
-    /// Whether a failed load handed back the step that leaves, and the name of its turn.
-    held: Option<(bool, TurnName<u64>)>,
-    /// Whether each clone of each call is refused, one after another.
-    pub refuses: bool,
+    /// What a failed load held: whether it is a ticket, the number of the turn, and its key.
+    held: Option<(bool, u64, u64)>,
 }
 
-/// Returns whether memory was refused.
+/// The calls that are drawn.
+const DRAWN: &str =
+    "get get get get get get get get get contains_key contains_key insert insert insert insert insert
+    or_insert or_insert invalidate invalidate remove begin begin begin begin begin begin begin compute compute compute
+    run_pending_tasks run_two_tasks entry_count weighted_size finish finish finish finish finish put put put abandon
+    collect collect leave";
+
+/// Draws a call. One that ends a turn is about one of the last turns of the pass, or an unknown one,
+/// and may not fit it. Only loads ask for keys from 100 on, so none of their turns stays open.
+fn draw(random: &mut SplitMix64, turns: &[(Kind, u64, u64)]) -> Act<'static> {
+    let (drawn, value) = (random.next_u64(), random.next_u64() % 1000 + 1);
+    let name = match value {
+        0..=60 => "load",
+        61..=66 => "invalidate_all",
+        _ => DRAWN
+            .split_whitespace()
+            .nth(drawn as usize % 47)
+            .unwrap_or("get"),
+    };
+    let begun = match value % 5 {
+        _ if name == "compute" => Kind::Compute,
+        0 => Kind::Optionally,
+        1 => Kind::Try,
+        _ => Kind::With,
+    };
+    let turn = turns.get(turns.len().wrapping_sub(value as usize % 8));
+    let (kind, one, two) = match name {
+        "finish" | "put" | "abandon" | "collect" | "leave" => match turn {
+            Some(turn) => *turn,
+            None => (Kind::With, u64::MAX, 0),
+        },
+        "load" => (Kind::With, 100 + value % 6, value),
+        _ => (begun, value % 24, value),
+    };
+    let three = if name == "load" { 0 } else { drawn >> 32 };
+    Act {
+        name,
+        kind,
+        one,
+        two,
+        three,
+    }
+}
+
+/// Returns whether memory was refused, for a call that is made again then.
 fn is_refused(said: Said) -> bool {
     matches!(
         said,
         Said::Refused(Refused::OutOfMemory)
             | Said::Failed(Refused::OutOfMemory)
-            | Said::HoldsTurn(Refused::OutOfMemory)
+            | Said::Holds(Refused::OutOfMemory, false, _, _)
     )
 }
 
-/// Makes a step. Returns what its reply says.
-fn call<C: CacheTypes<u64, Scarce>, L: Naming, W: Wait + Drop>(
-    cache: &Recorded<C, L, W>,
-    pass: &mut Pass<C, L>,
-    step: ScarceStep<C>,
-) -> Said
-    requires { StepKeeps C.keeps C.Predicate.tests C.test step }
-{
-    match cache.call(pass, step) {
-        Ok(receipt) => said_of(&receipt.reply),
-        Err(cause) => Said::Refused(cause),
-    }
-}
-
-/// Returns how many entries so many loaders have made once the closure of this number runs and all
-/// others that are left sleep.
-///
-/// Each began and collected too early once. In each round since then, who had the turn abandoned it,
-/// and all that were left saw that, began again, and all but one collected too early.
-fn asleep(loaders: u64, closure: u64) -> u64 {
-    let mut entries = loaders.wrapping_mul(2).wrapping_add(closure);
-    for earlier in 0..=closure {
-        let others = loaders.saturating_sub(1).saturating_sub(earlier);
-        entries = entries.wrapping_add(others.wrapping_mul(3)).wrapping_add(2);
-    }
-    entries
-}
-
-/// Returns the value of a closure, once it may.
-fn computed(rt: &impl Clock, marks: Arc<Marks>, value: u64, scarce: u64, told: bool) -> Scarce {
-    let earlier = marks.asks.fetch_add(1, Ordering::SeqCst);
-    let wanted = if scarce > 0 {
-        asleep(200, earlier)
-    } else {
-        told as u64
-    };
-    come(rt, &marks.told, wanted);
-    let number = if earlier < scarce { 0 } else { value };
-    Scarce { number, marks }
-}
-
-impl<R: Clock + Abort + Copy> Player<R> {
+impl<'a, R: Clock + Abort + Copy> Player<'a, R> {
     /// Creates a player.
-    pub(crate) fn new(rt: R, alloc: Global, marks: &Arc<Marks>) -> Result<Self, AllocError> {
-        Ok(Player {
-            rt,
-            alloc,
-            marks: marks.clone()?,
-            now: 0,
-            held: None,
-            refuses: false,
-        })
+    pub(crate) fn new(on: &'a Stage<R>) -> Self {
+        let (now, held) = (0, None);
+        Player { on, now, held }
     }
 
     /// Plays a row. Stops the test if it says something else, since the threads would not be joined
     /// otherwise.
-    pub(crate) fn play<C: CacheTypes<u64, Scarce>, L: Naming, W: Wait + Drop>(
-        &mut self,
-        cache: &Recorded<C, L, W>,
-        pass: &mut Pass<C, L>,
-        row: &str,
-    )
-        requires { (k : ℕ) (v : _) → C.keeps k v }
-    {
+    pub(crate) fn play<X: Called<P>, P>(&mut self, cache: &X, pass: &mut P, row: &str) {
         let said = self.act(cache, pass, read(row));
         let Some((_, wanted)) = row.split_once(" = ") else {
             return;
         };
-        match text_of(self.alloc, &said) {
-            Ok(text) => assert_eq!(self.rt; text.as_str(), wanted.trim(), "{row}"),
-            Err(_) => assert!(self.rt; false, "refused twice"),
+        match text_of(self.on.alloc, &said) {
+            Ok(text) => assert_eq!(self.on.rt; text.as_str(), wanted.trim(), "{row}"),
+            Err(_) => assert!(self.on.rt; false, "refused twice"),
         }
     }
 
-    fn act<C: CacheTypes<u64, Scarce>, L: Naming, W: Wait + Drop>(
-        &mut self,
-        cache: &Recorded<C, L, W>,
-        pass: &mut Pass<C, L>,
-        act: Act<'_>,
-    ) -> Said
-        requires { (k : ℕ) (v : _) → C.keeps k v }
-    {
+    fn act<X: Called<P>, P>(&mut self, cache: &X, pass: &mut P, act: Act<'_>) -> Said {
+        let on = self.on;
         match act.name {
-            "load" | "load_told" | "load_scarce" => self.load(cache, pass, act),
-            "end_held" => self.end_held(cache, pass),
-            "write_all" => Said::Is(self.write_all(cache, pass)),
-            "sees" | "still" | "watch" => Said::Is(self.poll(cache, pass, act)),
-            "at" | "tell" | "asked" | "join" => self.meet(act),
-            _ => self.again(cache, pass, act),
-        }
-    }
-
-    /// Does what is no call.
-    fn meet(&mut self, act: Act<'_>) -> Said {
-        match act.name {
+            "end_held" => return self.end_held(cache, pass),
+            "write_all" => return Said::Is(self.write_all(cache, pass, act.one)),
+            "random" => return Said::Is(self.random(cache, pass, act.one)),
+            "sees" | "watch" => return Said::Is(self.poll(cache, pass, act)),
+            "asked" => return Said::Is(come(&on.rt, &on.marks.asks, act.one)),
+            "join" => return Said::Is(come(&on.rt, &on.marks.done, act.one)),
+            "load_scarce" => return self.again(cache, pass, act, 1),
+            "tell" => mark(&on.marks.told),
+            "nap" => nap(&on.rt, act.one),
             "at" => self.now = act.one.saturating_mul(1_000_000_000),
-            "tell" => mark(&self.marks.told),
-            "asked" => return Said::Is(come(&self.rt, &self.marks.asks, act.one)),
-            _ => return Said::Is(come(&self.rt, &self.marks.done, act.one)),
+            _ => return self.again(cache, pass, act, 20),
         }
         Said::Done
     }
 
-    /// Makes a step or a load, again and again while it is refused memory. Makes what is held in
-    /// between.
-    fn again<C: CacheTypes<u64, Scarce>, L: Naming, W: Wait + Drop>(
+    /// Makes a call, and keeps what it holds. While it is refused memory, makes it again, up to so many
+    /// times, and what is held in between.
+    fn again<X: Called<P>, P>(
         &mut self,
-        cache: &Recorded<C, L, W>,
-        pass: &mut Pass<C, L>,
+        cache: &X,
+        pass: &mut P,
         act: Act<'_>,
-    ) -> Said
-        requires { (k : ℕ) (v : _) → C.keeps k v }
-    {
-        for clone in 0..20 {
-            if self.refuses {
-                let number = so_far(&self.marks.clones).saturating_add(clone);
-                self.marks.refused_clone.store(number, Ordering::SeqCst);
+        times: u64,
+    ) -> Said {
+        for clone in 1..=times {
+            if self.on.refuses {
+                let number = so_far(&self.on.marks.clones).saturating_add(clone);
+                self.on.marks.refused_clone.store(number, Ordering::SeqCst);
             }
-            let said = match step_of(self.alloc, &self.marks, act, self.now) {
-                _ if act.name == "load_again" => self.load(cache, pass, act),
-                Ok(step) => call(cache, pass, step),
-                Err(_) => Said::Refused(Refused::OutOfMemory),
-            };
-            if !is_refused(said) {
+            let said = cache.call(pass, act, self.now);
+            if let Said::Holds(_, is_ticket, number, key) = said {
+                self.held = Some((is_ticket, number, key));
+            }
+            if !is_refused(said) || times == 1 {
                 return said;
             }
-            mark(&self.marks.refusals);
+            mark(&self.on.marks.refusals);
             self.end_held(cache, pass);
         }
         Said::Other
     }
 
-    /// Loads a key by `get_with`.
-    fn load<C: CacheTypes<u64, Scarce>, L: Naming, W: Wait + Drop>(
-        &mut self,
-        cache: &Recorded<C, L, W>,
-        pass: &mut Pass<C, L>,
-        act: Act<'_>,
-    ) -> Said
-        requires { (k : ℕ) (v : _) → C.keeps k v }
-    {
-        let marks: Result<_, _> = self.marks.clone();
-        let (Ok(key), Ok(marks)) = (Arc::new(self.alloc, act.one), marks) else {
-            return Said::Failed(Refused::OutOfMemory);
-        };
-        let (rt, value, scarce) = (self.rt, act.two, act.three);
-        let told = act.name == "load_told";
-        let closure = move || computed(&rt, marks, value, scarce, told);
-        match cache.get_with(pass, key, closure, self.now) {
-            Ok(value) => {
-                mark(&self.marks.given);
-                Said::Given(value.number)
-            }
-            Err(GetWithRefused { cause, held }) => self.hold(cause, held),
-        }
-    }
-
-    /// Keeps what a failed load handed back.
-    fn hold<C: CacheTypes<u64, Scarce>>(
-        &mut self,
-        cause: Refused,
-        held: Option<ScarceStep<C>>,
-    ) -> Said {
-        match held {
-            None => {
-                mark(&self.marks.failed);
-                Said::Failed(cause)
-            }
-            Some(Step::Abandon { name }) => {
-                mark(&self.marks.held);
-                self.held = Some((false, name));
-                Said::HoldsTurn(cause)
-            }
-            Some(Step::Leave { name }) => {
-                mark(&self.marks.left);
-                self.held = Some((true, name));
-                Said::HoldsTicket(cause)
-            }
-            Some(_) => Said::Other,
-        }
-    }
-
     /// Makes the step that is held. It has to be done.
-    fn end_held<C: CacheTypes<u64, Scarce>, L: Naming, W: Wait + Drop>(
-        &mut self,
-        cache: &Recorded<C, L, W>,
-        pass: &mut Pass<C, L>,
-    ) -> Said {
-        let said = match self.held.take() {
-            None => return Said::Absent,
-            Some((false, name)) => call(cache, pass, Step::Abandon { name }),
-            Some((true, name)) => call(cache, pass, Step::Leave { name }),
+    fn end_held<X: Called<P>, P>(&mut self, cache: &X, pass: &mut P) -> Said {
+        let Some((is_ticket, one, two)) = self.held.take() else {
+            return Said::Absent;
         };
-        assert!(self.rt; said == Said::Done, "what was held says {said:?}");
+        let name = if is_ticket { "leave" } else { "abandon" };
+        let said = cache.call(pass, Act::new(name, one, two), self.now);
+        assert!(self.on.rt; said == Said::Done, "what was held says {said:?}");
         said
     }
 
-    /// Writes keys of its own and reads each. Returns whether it found each.
-    fn write_all<C: CacheTypes<u64, Scarce>, L: Naming, W: Wait + Drop>(
-        &mut self,
-        cache: &Recorded<C, L, W>,
-        pass: &mut Pass<C, L>,
-    ) -> bool
-        requires { (k : ℕ) (v : _) → C.keeps k v }
-    {
-        let from = pass.number().saturating_mul(64);
+    /// Writes 64 keys from a number on, and reads each. Returns whether it found each.
+    fn write_all<X: Called<P>, P>(&self, cache: &X, pass: &mut P, from: u64) -> bool {
         for key in from..from.saturating_add(64) {
-            let act = Act {
-                name: "insert",
-                one: key,
-                two: key.wrapping_add(1_000),
-                three: 0,
-            };
-            let written = self.again(cache, pass, act);
-            let read = self.again(cache, pass, Act { name: "get", ..act });
-            if written != Said::Done || read != Said::Found(act.two) {
+            let written = cache.call(pass, Act::new("insert", key, key), self.now);
+            let read = cache.call(pass, Act::new("get", key, 0), self.now);
+            if written != Said::Done || read != Said::Found(key) {
                 return false;
             }
         }
         true
     }
 
-    /// Counts the entries of the others, again and again until they have so many or so many threads are
-    /// done. Returns whether that came. For `still`, gives the others time to go on before.
+    /// Makes 400 calls that are drawn. Returns whether none was refused memory, and each load given
+    /// its value.
+    fn random<X: Called<P>, P>(&self, cache: &X, pass: &mut P, seed: u64) -> bool {
+        let mut random = SplitMix64::seed_from_u64(seed);
+        let mut turns = Vec::new(self.on.alloc);
+        for made in 20..420_u64 {
+            let act = draw(&mut random, turns.as_slice());
+            let now = made.wrapping_sub(random.next_u64() % 20);
+            let said = cache.call(pass, act, now.wrapping_mul(2_000_000_000));
+            let is_made = match said {
+                Said::Run(number) | Said::Wait(number) => {
+                    turns.push((act.kind, number, act.one)).is_ok()
+                }
+                Said::Given(_) => true,
+                said => act.name != "load" && !is_refused(said),
+            };
+            if !is_made {
+                return false;
+            }
+        }
+        true
+    }
+
+    /// Counts and tells the entries of the others, again and again until they have so many or so many
+    /// threads are done. Returns whether that came.
     ///
     /// A caller that waits for a turn makes two: its begin, and the collect that comes too early. It
     /// releases the lock behind that collect only by going to sleep. So it sleeps once another call
     /// finds both.
-    fn poll<C: CacheTypes<u64, Scarce>, L: Naming, W: Wait + Drop>(
-        &mut self,
-        cache: &Recorded<C, L, W>,
-        pass: &mut Pass<C, L>,
-        act: Act<'_>,
-    ) -> bool {
-        let naps = if act.name == "still" { 50 } else { 1 };
-        for _ in 0..TURNS {
-            for _ in 0..naps {
-                nap(&self.rt);
-            }
-            let Ok(receipt) = cache.call(pass, Step::EntryCount) else {
+    fn poll<X: Called<P>, P>(&self, cache: &X, pass: &mut P, act: Act<'_>) -> bool {
+        let on = self.on;
+        for _ in 0..20_000 {
+            nap(&on.rt, 1);
+            let Said::Counted(others) = cache.call(pass, Act::new("others", 0, 0), 0) else {
                 return false;
             };
-            let own = pass.receipts().len() as u64;
-            let others = receipt.place.wrapping_add(1).wrapping_sub(own);
+            on.marks.told.store(others, Ordering::SeqCst);
             let count = match act.name {
-                "still" => return others == act.one,
-                "watch" => {
-                    self.marks.told.store(others, Ordering::SeqCst);
-                    so_far(&self.marks.done)
-                }
-                _ => others,
+                "sees" => others,
+                _ => so_far(&on.marks.done),
             };
             if count >= act.one {
                 return true;

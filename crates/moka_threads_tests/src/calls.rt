@@ -1,18 +1,21 @@
-//! The calls that the tests make, for both caches.
-ghost use Rattle.std.specs.Prelude.{◌≡◌, ◌≢◌, ℕ};
+//! The calls of both shared caches, each in a function without a contract. Nothing else calls a cache,
+//! so that no proof of a scene has the contracts of several calls in it.
+ghost use Rattle.std.specs.Prelude.{◌≢◌};
 ghost use Rattle.moka_model.specs.declared.turns.Kind.{Kind};
-ghost use Rattle.moka_state.specs.Finish.{Fits, outcome_of};
 
-use crate::items::{Key, Value, inside_until_done};
-use crate::world::{Any, Mode, Whole, World, both};
+use crate::items::{Key, Value, reaches};
+use crate::world::{Any, Whole, World, both};
+use moka::common::entry::Entry;
 use moka::ops::compute::Op;
 use moka::policy::Refused;
 use moka::sync::value_initializer::{
-    Begun, CollectRefused, Collected, FinishRefused, Kind, Outcome, Ticket, Turn,
+    Begun, BegunCompute, CollectRefused, Collected, FinishRefused, Kind, Outcome, Ticket, Turn,
 };
+use rand_core::SeedableRng;
+use rand_xoshiro::SplitMix64;
 use std::sync::Arc;
 
-/// A call. Those from `With` on are loaders, computes and calls of selectors.
+/// A call.
 #[derive(Clone, Copy, Debug)]
 pub(crate) enum Call {
     Get,
@@ -40,49 +43,44 @@ pub(crate) enum Call {
     SelectOrDefault,
 }
 
-pub(crate) type Found = Result<Option<u64>, Refused>;
+/// The number of the value that a call gave, or 0, or why it failed.
+pub(crate) type Given = Result<u64, Refused>;
 
-pub(crate) type Made = Result<(), Refused>;
+/// The entry that a compute is shown.
+pub(crate) type Shown<W> = Option<Entry<Key<W>, Value<W>>>;
 
-fn made<T: Drop>(made: Result<T, Refused>) -> Made {
+fn made<T: Drop>(made: Result<T, Refused>) -> Given {
     match made {
-        Ok(_) => Ok(()),
+        Ok(_) => Ok(0),
         Err(cause) => Err(cause),
     }
 }
 
 impl<W: Whole> World<W> {
-    pub(crate) fn look(&self, number: u64) -> Found {
+    pub(crate) fn look(&self, number: u64) -> Given {
         let key = Key::new(number);
         match both!(&self.cache, cache => cache.get(&key))? {
-            Some(value) => Ok(Some(value.number)),
-            None => Ok(None),
+            Some(value) => Ok(value.number),
+            None => Ok(0),
         }
     }
 
-    pub(crate) fn insert(&self, key: Key<W>, value: Value<W>) -> Made {
+    pub(crate) fn insert(&self, key: Key<W>, value: Value<W>) -> Given {
         match both!(&self.cache, cache => cache.insert(key, value)) {
-            Ok(()) => Ok(()),
+            Ok(()) => Ok(0),
             Err(refused) => Err(refused.cause),
         }
     }
 
-    pub(crate) fn or_insert(&self, key: &Arc<Key<W>>, value: Value<W>) -> Made {
-        match both!(&self.cache, cache => cache.or_insert(key, value)) {
-            Ok(_) => Ok(()),
+    pub(crate) fn put(&self, number: u64, value: u64) -> Given {
+        self.insert(Key::new(number), Value::new(value))
+    }
+
+    pub(crate) fn or_insert(&self, number: u64, value: Value<W>) -> Given {
+        let key = self.shared_key(number)?;
+        match both!(&self.cache, cache => cache.or_insert(&key, value)) {
+            Ok(_) => Ok(0),
             Err(refused) => Err(refused.cause),
-        }
-    }
-
-    pub(crate) fn put(&self, number: u64, value: u64) -> bool {
-        self.insert(Key::new(number), Value::new(value)).is_ok()
-    }
-
-    /// Inserts the value 10, which expires before a call unless that is to replace it.
-    pub(crate) fn puts_ten(&self, number: u64, call: Call) {
-        assert!(&self.rt; self.put(number, 10));
-        if !matches!(call, Call::WithIf) {
-            self.let_all_expire();
         }
     }
 
@@ -92,185 +90,182 @@ impl<W: Whole> World<W> {
     }
 
     /// Makes a call about this key, with this value if it takes one.
-    pub(crate) fn make(&self, number: u64, value: Value<W>, call: Call) -> Made {
-        let Ok(shared) = self.shared_key(number) else {
-            return Err(Refused::OutOfMemory);
-        };
-        let key = Key::new(number);
-        let at = &self.cache;
+    pub(crate) fn make(&self, number: u64, value: Value<W>, call: Call) -> Given {
+        let (at, key) = (&self.cache, Key::new(number));
         match call {
-            Call::Get => return made(both!(at, cache => cache.get(&key))),
-            Call::ContainsKey => drop(both!(at, cache => cache.contains_key(&key))),
+            Call::Get => return self.look(number),
             Call::Insert => return self.insert(key, value),
-            Call::OrInsert => return self.or_insert(&shared, value),
+            Call::OrInsert => return self.or_insert(number, value),
+            Call::Begin => return self.begins(number),
+            Call::Walk => return both!(at, cache => self.walk(cache.iter())),
             Call::OrDefault => return made(both!(at, cache => cache.or_default(key))),
-            Call::Invalidate => self.erase(number),
             Call::Remove => return made(both!(at, cache => cache.remove(&key))),
+            Call::Invalidate => self.erase(number),
+            Call::ContainsKey => drop(both!(at, cache => cache.contains_key(&key))),
             Call::InvalidateAll => both!(at, cache => cache.invalidate_all()),
             Call::Tasks => both!(at, cache => cache.run_pending_tasks()),
             Call::TasksUpTo => drop(both!(at, cache => cache.run_pending_tasks_up_to(1))),
             Call::EntryCount => drop(both!(at, cache => cache.entry_count())),
-            Call::Begin => return self.begins(&shared),
-            Call::Walk => return self.walks(),
             call => return self.load(key, value, call),
         }
-        Ok(())
+        Ok(0)
     }
 
-    fn load(&self, key: Key<W>, value: Value<W>, call: Call) -> Made {
+    fn load(&self, key: Key<W>, value: Value<W>, call: Call) -> Given {
+        if !matches!(call, Call::With | Call::WithByRef | Call::WithIf) {
+            return self.load_or_not(key, value, call);
+        }
         let at = &self.cache;
-        match call {
-            Call::With | Call::WithByRef | Call::WithIf => {
-                made(self.loads(key.number, call, || self.after_waiting(value)))
-            }
-            Call::Optionally => made(both!(at, cache => cache
-                .optionally_get_with(key, || Some(self.after_waiting(value))))),
-            Call::Try => made(both!(at, cache => cache
-                .try_get_with(key, || Ok(self.after_waiting(value))))),
-            call => self.select(key, value, call),
-        }
-    }
-
-    fn after_waiting(&self, value: Value<W>) -> Value<W> {
-        if let Mode::Waits = self.mode {
-            inside_until_done(&self.rt, &self.marks);
-        }
-        value
-    }
-
-    fn select(&self, key: Key<W>, value: Value<W>, call: Call) -> Made {
-        let at = &self.cache;
-        match call {
-            Call::Compute => made(both!(at, cache => cache
-                .entry(key)
-                .and_compute_with(|_| Op::Put(self.after_waiting(value))))),
-            Call::TryCompute => made(both!(at, cache => cache
-                .entry(key)
-                .and_try_compute_with(|_| Ok(Op::Put(self.after_waiting(value)))))),
-            Call::Upsert => made(both!(at, cache => cache
-                .entry(key)
-                .and_upsert_with(|_| self.after_waiting(value)))),
-            Call::SelectOrInsert => made(both!(at, cache => cache.entry(key).or_insert(value))),
-            _ => made(both!(at, cache => cache.entry(key).or_default())),
-        }
-    }
-
-    /// Begins, and abandons the turn if there is one.
-    fn begins(&self, key: &Arc<Key<W>>) -> Made {
-        let none = None::<fn(&Value<W>) -> bool>;
-        match both!(&self.cache, cache => cache.begin(key, Kind::With, none))? {
-            Begun::Found(_) => Ok(()),
-            Begun::Run(turn) => both!(&self.cache, cache => cache.abandon(turn)),
-            Begun::Wait(ticket) => both!(&self.cache, cache => cache.leave(ticket)),
-        }
-    }
-
-    fn walks(&self) -> Made {
-        for pair in both!(&self.cache, cache => cache.iter()) {
-            let _ = pair?;
-        }
-        Ok(())
-    }
-}
-
-/// The number of the value that a loader or a compute returned.
-pub(crate) type Given = Result<u64, Refused>;
-
-impl Call {
-    /// Returns how often a loader reads the clock until it has a ticket. By reference it looks first.
-    pub(crate) fn readings(self) -> u64 {
-        if let Call::WithByRef = self { 2 } else { 1 }
-    }
-}
-
-impl<W: Whole> World<W> {
-    /// Loads by `get_with`, `get_with_by_ref` or `get_with_if`.
-    pub(crate) fn loads<F: FnOnce() -> Value<W> + Drop>(
-        &self,
-        number: u64,
-        call: Call,
-        init: F,
-    ) -> Given
-        requires { F.IsAlwaysCallable init }
-    {
-        let key = Key::new(number);
-        let at = &self.cache;
+        let init = move || self.init(value);
         let given = match call {
             Call::WithByRef => both!(at, cache => cache.get_with_by_ref(&key, init))?,
-            Call::WithIf =>
-                both!(at, cache => cache.get_with_if(key, init, |live| self.judges(live)))?,
+            Call::WithIf => {
+                let judge = move |live: &Value<W>| self.judges(live);
+                both!(at, cache => cache.get_with_if(key, init, judge))?
+            }
             _ => both!(at, cache => cache.get_with(key, init))?,
         };
         Ok(given.number)
     }
 
-    /// Is the body of a `replace_if`. It turns down the value 10.
-    fn judges(&self, live: &Value<W>) -> bool {
-        if let Mode::Waits = self.mode {
-            inside_until_done(&self.rt, &self.marks);
+    /// Makes a load that may give no value. Gives its error with how often that is shared, once the
+    /// caller that had the turn has let go of it.
+    fn load_or_not(&self, key: Key<W>, value: Value<W>, call: Call) -> Given {
+        let at = &self.cache;
+        match call {
+            Call::Optionally => {
+                let init = move || Some(self.init(value));
+                made(both!(at, cache => cache.optionally_get_with(key, init)))
+            }
+            Call::Try => {
+                let init = move || self.tries(value);
+                match both!(at, cache => cache.try_get_with(key, init))? {
+                    Ok(value) => Ok(value.number),
+                    Err(error) => {
+                        reaches(&self.rt, &self.marks.ended, 1);
+                        let shared = Arc::strong_count(&error) as u64;
+                        Ok(shared.wrapping_mul(100).wrapping_add(*error))
+                    }
+                }
+            }
+            call => self.select(key, value, call),
         }
-        live.number == 10
+    }
+
+    fn select(&self, key: Key<W>, value: Value<W>, call: Call) -> Given {
+        let at = &self.cache;
+        match call {
+            Call::Compute => {
+                let compute = move |_: Shown<W>| Op::Put(self.init(value));
+                made(both!(at, cache => cache.entry(key).and_compute_with(compute)))
+            }
+            Call::TryCompute => {
+                let compute = move |_: Shown<W>| Ok(Op::Put(self.init(value)));
+                made(both!(at, cache => cache.entry(key).and_try_compute_with(compute)))
+            }
+            Call::Upsert => {
+                let upsert = move |shown: Shown<W>| self.upserts(shown, value);
+                let entry = both!(at, cache => cache.entry(key).and_upsert_with(upsert))?;
+                Ok(entry.value().number)
+            }
+            Call::SelectOrInsert => made(both!(at, cache => cache.entry(key).or_insert(value))),
+            _ => made(both!(at, cache => cache.entry(key).or_default())),
+        }
+    }
+
+    /// Begins. A live value is replaced, or is not.
+    pub(crate) fn begin(
+        &self,
+        number: u64,
+        kind: Kind,
+        replaces: bool,
+    ) -> Result<Begun<Key<W>, Value<W>>, Refused>
+        requires { kind ≢ Kind.Compute }
+    {
+        let key = self.shared_key(number)?;
+        let replace_if = Some(move |_: &Value<W>| replaces);
+        both!(&self.cache, cache => cache.begin(&key, kind, replace_if))
+    }
+
+    /// Begins, and abandons the turn if there is one.
+    fn begins(&self, number: u64) -> Given {
+        match self.begin(number, Kind::With, false)? {
+            Begun::Found(_) => Ok(0),
+            Begun::Run(turn) => self.abandon(turn),
+            Begun::Wait(ticket) => self.leave(ticket),
+        }
     }
 
     /// Opens a turn of a kind, whatever is live.
-    pub(crate) fn open(&self, key: &Arc<Key<W>>, kind: Kind) -> Turn<Key<W>>
+    pub(crate) fn open(&self, number: u64, kind: Kind) -> Turn<Key<W>>
         requires { kind ≢ Kind.Compute }
-        ensures { result.key.kind ≡ kind }
     {
-        match both!(&self.cache, cache => cache.begin(key, kind, Some(|_: &Value<W>| true))) {
+        match self.begin(number, kind, true) {
             Ok(Begun::Run(turn)) => turn,
             Ok(Begun::Wait(ticket)) => {
-                self.leaves(ticket);
+                self.leave(ticket).ok();
                 panic!(&self.rt; "another has the turn")
             }
             Ok(Begun::Found(_)) | Err(_) => panic!(&self.rt; "no turn"),
         }
     }
 
-    /// Waits for an open turn of the kind `With`. Returns the ticket.
-    pub(crate) fn wait_for(&self, key: &Arc<Key<W>>) -> Ticket<Key<W>> {
-        match both!(&self.cache, cache => cache.begin(key, Kind::With, Some(|_: &Value<W>| false)))
-        {
-            Ok(Begun::Wait(ticket)) => ticket,
-            Ok(Begun::Run(turn)) => {
-                self.abandons(turn);
-                panic!(&self.rt; "no turn is open")
-            }
-            Ok(Begun::Found(_)) | Err(_) => panic!(&self.rt; "no ticket"),
+    /// Ends a turn with an outcome, or abandons it if that fails.
+    pub(crate) fn finish(&self, turn: Turn<Key<W>>, outcome: Outcome<Value<W>, Arc<u64>>) -> Given {
+        if !turn.kind().accepts(&outcome) {
+            return self.abandon(turn).and(Err(Refused::UnknownTurn));
         }
-    }
-
-    /// Ends a turn with an outcome, or abandons it if that fails. Returns whether it was ended.
-    pub(crate) fn finishes(&self, turn: Turn<Key<W>>, outcome: Outcome<Value<W>, Arc<u64>>) -> bool
-        requires { Fits ℕ turn.key.kind (outcome_of outcome) }
-    {
         match both!(&self.cache, cache => cache.finish(turn, outcome)) {
-            Ok(_) => true,
+            Ok(_) => Ok(0),
             Err(
                 FinishRefused {
                     turn,
                     outcome: _,
-                    cause: _,
+                    cause,
                 },
-            ) => self.abandons(turn) && false,
+            ) => self.abandon(turn).and(Err(cause)),
         }
     }
 
-    pub(crate) fn abandons(&self, turn: Turn<Key<W>>) -> bool {
-        both!(&self.cache, cache => cache.abandon(turn)).is_ok()
+    pub(crate) fn abandon(&self, turn: Turn<Key<W>>) -> Given {
+        made(both!(&self.cache, cache => cache.abandon(turn)))
     }
 
-    pub(crate) fn leaves(&self, ticket: Ticket<Key<W>>) -> bool {
-        both!(&self.cache, cache => cache.leave(ticket)).is_ok()
+    pub(crate) fn leave(&self, ticket: Ticket<Key<W>>) -> Given {
+        made(both!(&self.cache, cache => cache.leave(ticket)))
     }
 
-    /// Collects a ticket. Returns whether its turn gave something.
-    pub(crate) fn collects(&self, ticket: Ticket<Key<W>>) -> bool {
+    /// Collects a ticket, whose turn has to have given something.
+    pub(crate) fn collect(&self, ticket: Ticket<Key<W>>) -> Given {
         match both!(&self.cache, cache => cache.collect(ticket)) {
-            Ok(Collected::Ready(_)) => true,
-            Ok(Collected::NotYet(ticket)) => self.leaves(ticket) && false,
-            Ok(Collected::Abandoned | Collected::Ended) => false,
-            Err(CollectRefused { ticket, cause: _ }) => self.leaves(ticket) && false,
+            Ok(Collected::Ready(_)) => Ok(0),
+            Ok(Collected::Abandoned | Collected::Ended) => Err(Refused::WaitsAbandoned),
+            Ok(Collected::NotYet(ticket)) => self.leave(ticket).and(Err(Refused::TurnIsOpen)),
+            Err(CollectRefused { ticket, cause }) => self.leave(ticket).and(Err(cause)),
         }
+    }
+
+    /// Begins a compute that saves the live value, and abandons it.
+    pub(crate) fn compute_nothing(&self, number: u64) -> Given {
+        let key = self.shared_key(number)?;
+        match both!(&self.cache, cache => cache.begin_compute(&key, true))? {
+            BegunCompute::Run(turn, Some(_)) => self.abandon(turn),
+            BegunCompute::Run(turn, None) => self.abandon(turn).and(Err(Refused::UnknownTurn)),
+            BegunCompute::Wait(ticket) => self.leave(ticket).and(Err(Refused::TurnIsOpen)),
+        }
+    }
+
+    /// Hides nothing, by a predicate.
+    pub(crate) fn hide(&self) -> Given {
+        let Some(watch) = self.watch() else {
+            return Err(Refused::OutOfMemory);
+        };
+        let mut generator = SplitMix64::seed_from_u64(7);
+        let is_hidden = match &self.cache {
+            Any::One(cache) => cache.invalidate_entries_if(watch, &mut generator).is_ok(),
+            Any::Four(cache) => cache.invalidate_entries_if(watch).is_ok(),
+        };
+        assert!(&self.rt; is_hidden);
+        Ok(0)
     }
 }

@@ -9,7 +9,7 @@ ghost use Rattle.std.specs.Hash as fed;
 
 use moka::notification::RemovalCause;
 use moka::policy::{CacheTypes, CountTable, Listener, NoExpiry, NoWeigher, NumberHash, Predicate};
-use std::alloc::{AllocError, Global};
+use std::alloc::AllocError;
 use std::hash::{BuildHasherDefault, Hash, Hasher};
 use std::marker::PhantomData;
 use std::rt::Clock;
@@ -18,22 +18,17 @@ use std::sync::atomic::{AtomicU64, Ordering};
 use std::thread;
 use std::time::Duration;
 
-/// Wraps a value in an `Arc`. Retries once if the allocation fails.
-pub(crate) fn share<T: Drop>(alloc: Global, value: T) -> Result<Arc<T>, AllocError> {
-    match Arc::new(alloc, value) {
-        Ok(value) => Ok(value),
-        Err(failed) => Ok(Arc::new(alloc, failed.value)?),
-    }
-}
-
 /// Counts that go up, each from 0.
-#[derive(Drop)]
+#[derive(Default, Drop)]
 pub(crate) struct Marks {
-    /// The threads that have reached the point at which others wait for them.
-    pub arrived: AtomicU64,
-    /// Those that have arrived and saw that another thread did its work meanwhile.
+    /// The threads that run without a lock, and those of them that saw that another thread did its
+    /// work meanwhile.
+    pub inside: AtomicU64,
     pub in_time: AtomicU64,
-    /// The threads that have done their work.
+    /// What others wait for: turns that are open, turns whose end was made, or steps of an iteration.
+    pub started: AtomicU64,
+    pub ended: AtomicU64,
+    /// The threads, or the writes between two steps, that are done.
     pub done: AtomicU64,
     /// The calls of initializers.
     pub asks: AtomicU64,
@@ -42,22 +37,6 @@ pub(crate) struct Marks {
     /// The moment of the clock, and how often it was read.
     pub moment: AtomicU64,
     pub readings: AtomicU64,
-}
-
-/// Creates counts of 0.
-pub(crate) fn new_marks(alloc: Global) -> Result<Arc<Marks>, AllocError> {
-    share(
-        alloc,
-        Marks {
-            arrived: AtomicU64::new(0),
-            in_time: AtomicU64::new(0),
-            done: AtomicU64::new(0),
-            asks: AtomicU64::new(0),
-            key: AtomicU64::new(0),
-            moment: AtomicU64::new(0),
-            readings: AtomicU64::new(0),
-        },
-    )
 }
 
 pub(crate) fn mark(count: &AtomicU64) {
@@ -79,14 +58,9 @@ pub(crate) fn reaches(rt: &impl Clock, count: &AtomicU64, wanted: u64) -> bool {
     false
 }
 
-/// Sleeps 30 ms, so that other threads come to a point that no count shows.
-pub(crate) fn pause(rt: &impl Clock) {
-    thread::sleep(rt, Duration::from_millis(30));
-}
-
-/// Counts itself as arrived, and waits until another thread is done.
+/// Counts itself as inside, and waits until another thread is done.
 pub(crate) fn inside_until_done(rt: &impl Clock, marks: &Marks) {
-    mark(&marks.arrived);
+    mark(&marks.inside);
     if reaches(rt, &marks.done, 1) {
         mark(&marks.in_time);
     }
@@ -156,20 +130,18 @@ impl<W: Clock + Drop> Clone for Key<W> {
 /// The number of a value of which no clone can be made, as if no memory were left.
 pub(crate) const SCARCE: u64 = u64::MAX;
 
-/// A value. It may have a box, so that a clone of it allocates, and a watch, which is dropped with
-/// it.
+/// A value. It may have a watch, which is dropped with it.
 #[derive(Drop)]
 pub(crate) struct Value<W: Clock + Drop> {
     pub number: u64,
-    pub own: Option<Box<u64>>,
     pub watch: Option<Watch<W>>,
 }
 
 impl<W: Clock + Drop> Value<W> {
-    /// Creates a value without a box and a watch.
+    /// Creates a value without a watch.
     pub(crate) fn new(number: u64) -> Self {
-        let (own, watch) = (None, None);
-        Value { number, own, watch }
+        let watch = None;
+        Value { number, watch }
     }
 }
 
@@ -185,7 +157,6 @@ impl<W: Clock + Copy + Drop> Clone for Value<W> {
             return Err(AllocError);
         }
         let mut copy = Value::new(self.number);
-        copy.own = self.own.clone()?;
         if let Some(Watch { marks, rt }) = &self.watch {
             let (marks, rt) = (marks.clone()?, *rt);
             copy.watch = Some(Watch { marks, rt });

@@ -1,6 +1,0 @@
-use Rattle.std.proofs.Common.{◌≡◌, false, refl}
-use Rattle.moka_recorded_tests.proofs.Steps.{step_keeps}
-use Rattle.moka_recorded_tests.proofs.soak.make.Goals as goal
-
-pub step-reply-requires : goal.step-reply-requires
-step-reply-requires c = step_keeps (λ k v. Unit {0}) (λ p test. test ≡ (λ k v. false)) (λ p k v. false) (λ k v. tt) (λ p. refl) c.args.step
