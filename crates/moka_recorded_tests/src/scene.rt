@@ -164,7 +164,7 @@ where
     let Ok(cache) = made else {
         return Ok(false);
     };
-    play_rows(on, on, &cache, passes.as_mut_slice(), on.part(1));
+    play_rows(on, on, &cache, passes.as_mut_slice(), None);
     if !on.part(2).is_empty() {
         work_all(&rt, &cache, passes.as_mut_slice(), on);
     }
@@ -175,14 +175,19 @@ where
     Ok(true)
 }
 
-/// Plays the rows of one thread, each by the pass whose number stands before it, or by the first.
+/// Plays the rows of the thread of a pass, or of the one thread of a scene. Each is played by the
+/// pass whose number stands before it, or by the first.
 fn play_rows<R: Clock + Abort + Copy, D: Calls<X, P>, X, P>(
     on: &Stage<R>,
     calls: &D,
     cache: &X,
     passes: &mut [P],
-    rows: &str,
+    thread: Option<u64>,
 ) {
+    let rows = match thread {
+        Some(pass) => on.rows_of(pass),
+        None => on.part(1),
+    };
     let lent = Lent { calls, cache };
     let mut player = Player::new(on);
     for row in rows.split(';') {
@@ -199,8 +204,8 @@ impl<R: Clock + Abort + Copy, L: Naming, W: Wait + Drop> Job<
     (),
 > for Stage<R> {
     fn work(&self, cache: &Recorded<PlainRecorded, L, W>, pass: &mut Pass<PlainRecorded, L>) {
-        let rows = self.rows_of(pass.number());
-        play_rows(self, self, cache, slice::from_mut(pass), rows);
+        let thread = Some(pass.number());
+        play_rows(self, self, cache, slice::from_mut(pass), thread);
         mark(&self.marks.done);
     }
 }
