@@ -7,7 +7,9 @@ use crate::hands::{Hands, let_go};
 use crate::returned::{NO_MEMORY, Returned};
 use crate::rules::{Rules, caches, one_cache};
 use crate::run::reply;
+use crate::shared::Shared;
 use crate::subject::Subject;
+use crate::types::Maker;
 use anyhow::Result;
 use moka::policy::Refused;
 use std::alloc::{AllocError, Global};
@@ -25,6 +27,24 @@ const ROUNDS: u64 = 500;
 
 /// How far a thread sets the clock forward each time, in nanoseconds.
 const PACE: u64 = 80_000_000;
+
+impl<T: Clone + Drop, W: Copy + Drop> Shared<T, W> {
+    /// Returns so many other handles of the same cache, for threads, and this one.
+    fn handles(self, count: u64) -> Result<Vec<Shared<T, W>>, AllocError> {
+        let mut handles = Vec::new(self.maker.alloc);
+        for _ in 0..count {
+            handles.push(Shared {
+                cache: self.cache.clone()?,
+                clock: self.clock.clone()?,
+                queue: self.queue.clone()?,
+                waits: self.waits,
+                maker: Maker::new(self.maker.alloc)?,
+            })?;
+        }
+        handles.push(self)?;
+        Ok(handles)
+    }
+}
 
 /// What one thread calls and draws from, and what came of it.
 #[derive(Drop)]

@@ -376,7 +376,7 @@ pub fn compare<P: Print>(
                 "{}:{}{place}: {}: got {}, and its twin {}",
                 case.file,
                 mark.at.wrapping_add(1),
-                case.kind.name,
+                case.kind.0,
                 mark.reply,
                 wanted.reply
             )?;
