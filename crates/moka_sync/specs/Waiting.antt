@@ -68,7 +68,8 @@ module _ {K V E : Type 0} (keeps : K → V → Type 0) where
 
   -- The same for a caller whose key may still be its own.
   abbrev pub FirstReturns : FirstData K → Begun (Answer K V E) (Turn K) (Ticket K) → Type 0
-  FirstReturns it reply = IfSome it.key (λ key. HoldsOfBegun (IsGivenTo it.kind key) (IsTurnFor it.kind key) (IsTicketFor it.kind key) reply)
+  FirstReturns it reply =
+      IfSome it.key (λ key. HoldsOfBegun (IsGivenTo it.kind key) (IsTurnFor it.kind key) (IsTicketFor it.kind key) reply)
 
   -- What a collect returns: an answer for the kind and the key of the ticket, or the ticket itself.
   abbrev pub CollectReturns : Ticket K → Collected (Answer K V E) (Ticket K) → Type 0
