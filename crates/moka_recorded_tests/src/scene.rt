@@ -39,7 +39,7 @@ pub(crate) struct Stage<R> {
     pub marks: Arc<Marks>,
     /// Whether each clone of each call is refused.
     pub refuses: bool,
-    script: &'static str,
+    script: String,
 }
 
 impl<R> Stage<R> {
@@ -72,17 +72,15 @@ impl<R> Stage<R> {
 /// with `;` between them; rows of a thread for each pass, with `|` between them, the last for all
 /// further ones; the numbers of the passes of all entries but those that count; the tally. An empty
 /// order or tally is not compared.
-pub(crate) fn play<W>(
-    rt: W,
-    alloc: Global,
-    script: &'static str,
-    refused_clone: u64,
-) -> Result<Tally, Fail>
+pub(crate) fn play<W>(rt: W, alloc: Global, script: &str, refused_clone: u64) -> Result<Tally, Fail>
 where
     W: Wait + Clock + Threads + Abort + Copy + Drop + Send + Sync,
 {
     for _ in 0..2 {
         let Ok(marks) = Arc::new(alloc, Marks::default()) else {
+            continue;
+        };
+        let Ok(text) = String::from_str(alloc, script) else {
             continue;
         };
         marks.refused_clone.store(refused_clone, Ordering::SeqCst);
@@ -91,7 +89,7 @@ where
             alloc,
             marks,
             refuses: refused_clone == EACH,
-            script,
+            script: text,
         };
         if run(rt, &on)? {
             let marks = &*on.marks;
