@@ -253,7 +253,7 @@ impl<W: Whole> World<W> {
         mark(&self.marks.started);
         let steps = so_far(&self.marks.started);
         let is_written = reaches(&self.rt, &self.marks.done, steps);
-        assert!(&self.rt; is_written, "a write answers between two steps");
+        assert!(&self.rt; is_written, "a write returns between two steps");
     }
 
     /// At each step renews the key that came, overwrites a stored one, and writes one that was not.

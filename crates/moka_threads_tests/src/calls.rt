@@ -128,8 +128,8 @@ impl<W: Whole> World<W> {
         Ok(given.number)
     }
 
-    /// Makes a load that may give no value. Gives its error with how often that is shared, once the
-    /// caller that had the turn has let go of it.
+    /// Makes a load that may give no value. Returns its error, and how many share the error after the
+    /// caller that had the turn has dropped it.
     fn load_or_not(&self, key: Key<W>, value: Value<W>, call: Call) -> Given {
         let at = &self.cache;
         match call {
